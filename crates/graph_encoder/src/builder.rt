@@ -59,7 +59,7 @@ pub fn build_view<P: PlanView>(alloc: Global, plan: &P) -> Result<Vec<u8>, Alloc
     let mut file = Vec::with_capacity(alloc, body + kind.len_in_bytes())?;
     push_body(&mut file, plan, &chunks)?;
     let checksum = digest(kind, &file);
-    push_id(&mut file, &checksum)?;
+    push_id(&mut file, checksum.as_oid())?;
     Ok(file)
 }
 

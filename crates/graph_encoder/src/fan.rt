@@ -20,7 +20,7 @@ fn first_bytes<P: PlanView>(plan: &P) -> [u32; 256]
     let mut byte = 0;
     let mut run = 0;
     for place in 0..plan.commit_count() {
-        let next = plan.row(place).id.as_oid().first_byte();
+        let next = plan.row(place).id.first_byte();
         if next != byte {
             counts[byte as usize] += run;
             byte = next;

@@ -2,6 +2,7 @@
 
 ghost use Rattle.std.specs.Prelude.{◌≡◌, ◌↔◌, IsTrue, IfOk, IfSome, All, length, Option, None};
 ghost use Rattle.gix_hash_core.specs.Kind.{id_len};
+ghost use Rattle.gix_hash_core.specs.Oid.{oid_bytes};
 ghost use Rattle.graph_encoder.specs.DateOffsets.{offsets_of};
 ghost use Rattle.graph_encoder.specs.Plan.{IsPlan, IsPlannedCommit, AreOffsets, AreFilters};
 ghost use Rattle.graph_encoder.specs.Rows.{IsRowOf};
@@ -11,7 +12,7 @@ use crate::edges::{NO_PARENT, has_few_extra_words};
 use crate::filters::PlanFilters;
 use crate::row::PlanRow;
 use crate::view::PlanView;
-use gix_hash_core::{Kind, ObjectId};
+use gix_hash_core::{Kind, ObjectId, oid};
 use std::alloc::{AllocError, Global};
 
 /// What one file is to hold: the commits of a layer, and the checksums of the layers below it. It
@@ -121,8 +122,8 @@ impl PlanView for LayerPlan {
     fn row(&self, place: usize) -> PlanRow<'_> {
         let commit = &self.commits[place];
         PlanRow {
-            id: &commit.id,
-            tree: &commit.tree,
+            id: commit.id.as_oid(),
+            tree: commit.tree.as_oid(),
             parents: &commit.parents,
             generation: commit.generation,
             time: commit.time,
@@ -216,14 +217,14 @@ fn are_filters(filters: &PlanFilters, commits: usize) -> bool
     filters.ends.len() == commits && filters.bytes.len() < FILTER_BYTES_LIMIT
 }
 
-fn is_of_kind(id: &ObjectId, kind: Kind) -> bool
-    ensures { IsTrue result ↔ (length id.now ≡ id_len kind) }
+fn is_of_kind(id: oid<'_>, kind: Kind) -> bool
+    ensures { IsTrue result ↔ (length (oid_bytes id.entry) ≡ id_len kind) }
 {
-    id.as_oid().as_bytes().len() == kind.len_in_bytes()
+    id.as_bytes().len() == kind.len_in_bytes()
 }
 
 fn are_of_kind(ids: &[ObjectId], kind: Kind) -> bool
     ensures { IsTrue result ↔ All (λ id. length id ≡ id_len kind) ids.now }
 {
-    ids.iter().all(|id| is_of_kind(id, kind))
+    ids.iter().all(|id| is_of_kind(id.as_oid(), kind))
 }

@@ -1,11 +1,12 @@
 //! Numbers and ids, added at the end of a file.
 
 ghost use Rattle.std.specs.Prelude.{◌≡◌, ◌++◌, OnOk};
+ghost use Rattle.gix_hash_core.specs.Oid.{oid_bytes};
 ghost use Rattle.graph_encoder.specs.Chunks.{word_bytes, long_bytes};
 ghost use Rattle.graph_encoder.specs.Written.{ids_of, ids_bytes, words_bytes};
 
 use crate::view::PlanView;
-use gix_hash_core::ObjectId;
+use gix_hash_core::{ObjectId, oid};
 use std::alloc::AllocError;
 
 /// The length of most ids. Where a copy has a length that is known, the processor waits for several
@@ -39,10 +40,10 @@ pub(crate) fn push_long(file: &mut Vec<u8>, number: u64) -> Result<(), AllocErro
 }
 
 /// Adds the bytes of an id.
-pub(crate) fn push_id(file: &mut Vec<u8>, id: &ObjectId) -> Result<(), AllocError>
-    ensures { OnOk result (file.new.items ≡ file.old.items ++ id.now) }
+pub(crate) fn push_id(file: &mut Vec<u8>, id: oid<'_>) -> Result<(), AllocError>
+    ensures { OnOk result (file.new.items ≡ file.old.items ++ oid_bytes id.entry) }
 {
-    let bytes = id.as_oid().as_bytes();
+    let bytes = id.as_bytes();
     if bytes.len() == SHORT_LEN {
         file.extend_from_slice(&bytes[..SHORT_LEN])
     } else {
@@ -55,7 +56,7 @@ pub(crate) fn push_ids(file: &mut Vec<u8>, ids: &[ObjectId]) -> Result<(), Alloc
     ensures { OnOk result (file.new.items ≡ file.old.items ++ ids_bytes ids.now) }
 {
     for id in ids {
-        push_id(file, id)?;
+        push_id(file, id.as_oid())?;
     }
     Ok(())
 }

@@ -1,14 +1,14 @@
 //! One commit of a plan.
 
-use gix_hash_core::ObjectId;
+use gix_hash_core::oid;
 
 /// What a file is to hold for one commit, wherever it stands ("Commit Data").
 #[derive(Clone, Copy, Drop)]
 pub struct PlanRow<'a> {
     /// The commit's own id.
-    pub id: &'a ObjectId,
+    pub id: oid<'a>,
     /// The id of its root tree.
-    pub tree: &'a ObjectId,
+    pub tree: oid<'a>,
     /// The graph positions of its parents, in order.
     pub parents: &'a [u32],
     /// The generation number.

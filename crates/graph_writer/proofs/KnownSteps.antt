@@ -111,12 +111,12 @@ lists-more P old new n parents count same last each here i lt =
     (cases_lt i n)
 
 -- The parents of the commits at the places before this one are known.
-abbrev pub AreFoundTo : Known → ℕ → Type 0
+abbrev pub AreFoundTo : {C : Type 0} → Known C → ℕ → Type 0
 AreFoundTo known n = (p : ℕ) → p < n → (i : ℕ) → slice_get known.order.now p ≡ Some i
     → parent_at (ids_below known) known.commits.now i ≡ None
 
 -- so are those of one more
-pub found-more : (known : Known) (n i : ℕ) → slice_get known.order.now n ≡ Some i
+pub found-more : {C : Type 0} (known : Known C) (n i : ℕ) → slice_get known.order.now n ≡ Some i
     → parent_at (ids_below known) known.commits.now i ≡ None → AreFoundTo known n → AreFoundTo known (n + 1)
 found-more known n i at here each p lt j at_p =
     ⊎_elim
@@ -128,7 +128,8 @@ found-more known n i at here each p lt j at_p =
     (cases_lt p n)
 
 -- each commit has a place, so all parents are known
-pub all-found : (known : Known) → IsOrder known.commits.now known.order.now → AreFoundTo known (length known.order.now)
+pub all-found : {C : Type 0} (known : Known C) → IsOrder known.commits.now known.order.now
+    → AreFoundTo known (length known.order.now)
     → first_below (parent_at (ids_below known) known.commits.now) (length known.commits.now) ≡ None
 all-found known order each =
     first_below-none_from (parent_at (ids_below known) known.commits.now) (length known.commits.now)

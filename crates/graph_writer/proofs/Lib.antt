@@ -1,4 +1,6 @@
 pub mod NewIdSteps
+pub mod HandedSteps
+pub mod KindSteps
 pub mod NullSteps
 pub mod NumberSteps
 pub mod PlaceSteps

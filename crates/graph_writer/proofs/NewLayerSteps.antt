@@ -13,14 +13,14 @@ use Rattle.graph_writer.specs.NewLayers.{IsNewLayer, ids_in_order}
 use Rattle.graph_writer.specs.SortedPlaces.{ArePlaces, IsMixed, IsOrder, sorted_ids}
 use Rattle.graph_writer.specs.declared.commit.NewCommit.{NewCommit}
 use Rattle.graph_writer.specs.declared.new_layer.NewLayer.{NewLayer}
-use Rattle.graph_writer.specs.declared.order.Place.{Place}
+use Rattle.graph_writer.specs.declared.order.IdPlace.{IdPlace}
 
-abbrev pub numbers_in : List Place → List ℕ
+abbrev pub numbers_in : List IdPlace → List ℕ
 numbers_in places = map (λ place. place.commit) places
 
 -- the ids in the order of the numbers are those of the places
-pub ids-in_order : (commits : List NewCommit) (places : List Place)
-    → ((p : ℕ) (place : Place) → slice_get places p ≡ Some place → slice_get (new_ids commits) place.commit ≡ Some place.id)
+pub ids-in_order : (commits : List NewCommit) (places : List IdPlace)
+    → ((p : ℕ) (place : IdPlace) → slice_get places p ≡ Some place → slice_get (new_ids commits) place.commit ≡ Some place.id)
     → ids_in_order commits (numbers_in places) ≡ sorted_ids places
 ids-in_order commits [] each = refl
 ids-in_order commits (place ∷ places) each =
@@ -31,10 +31,10 @@ ids-in_order commits (place ∷ places) each =
     ap (λ (id : List ℕ). id ∷ ids_in_order commits (numbers_in places)) first
     ∙ ap (λ (ids : List (List ℕ)). place.id ∷ ids) rest
 
-module _ (commits : List NewCommit) (places : List Place) (are : ArePlaces commits places) where
-  number-at : (p : ℕ) (place : Place) → slice_get places p ≡ Some place → slice_get (numbers_in places) p ≡ Some place.commit
+module _ (commits : List NewCommit) (places : List IdPlace) (are : ArePlaces commits places) where
+  number-at : (p : ℕ) (place : IdPlace) → slice_get places p ≡ Some place → slice_get (numbers_in places) p ≡ Some place.commit
   number-at p place at =
-      slice_get-map (λ (x : Place). x.commit) places p ∙ ap (option_map (λ (x : Place). x.commit)) at
+      slice_get-map (λ (x : IdPlace). x.commit) places p ∙ ap (option_map (λ (x : IdPlace). x.commit)) at
 
   pub same-ids : ids_in_order commits (numbers_in places) ≡ sorted_ids places
   same-ids = ids-in_order commits places (λ p place at. (are.each p place at).1)
@@ -45,9 +45,9 @@ module _ (commits : List NewCommit) (places : List Place) (are : ArePlaces commi
     mixed =
         subst (IsMixed (length commits)) (sym is)
         (record {
-          as_many = length-map places (λ (x : Place). x.commit) ∙ are.as_many;
+          as_many = length-map places (λ (x : IdPlace). x.commit) ∙ are.as_many;
           each =
-              All-map (λ i. i < length commits) (λ (x : Place). x.commit) places
+              All-map (λ i. i < length commits) (λ (x : IdPlace). x.commit) places
               (λ k d lt. (are.each k (get_or places k d) (slice_get-get_or places k d lt)).0);
           all = λ i lt.
               let found = are.all i lt in

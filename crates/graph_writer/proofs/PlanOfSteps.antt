@@ -13,8 +13,9 @@ use Rattle.graph_levels.specs.ParentLists.{parent_list}
 use Rattle.graph_writer.specs.PlannedCommits.{IsPlanOf, IsNewRow, commit_at, no_commit, planned_at, plan_of}
 use Rattle.graph_writer.specs.declared.commit.NewCommit.{NewCommit}
 use Rattle.graph_writer.specs.declared.new_plan.NewPlan.{NewPlan}
+use Rattle.graph_writer.specs.declared.view.CommitView.{Ghosts}
 
-module _ (plan : NewPlan) where
+module _ {C : Type 0} {G : Ghosts C} (plan : NewPlan C G) where
   pub planned-count : length (plan_of plan).commits.items ≡ length plan.new.now.order.items
   unfolding plan_of
   planned-count = length-map-range_with_len (planned_at plan) 0 (length plan.new.now.order.items)

@@ -27,14 +27,15 @@ use Rattle.graph_writer.specs.declared.commit.NewCommit.{NewCommit}
 use Rattle.graph_writer.specs.declared.filters.NewFilters.{NewFilters}
 use Rattle.graph_writer.specs.declared.levels_below.LevelsBelow.{LevelsBelow}
 use Rattle.graph_writer.specs.declared.new_plan.NewPlan.{NewPlan}
+use Rattle.graph_writer.specs.declared.view.CommitView.{Ghosts}
 use Rattle.graph_writer.proofs.FilteredSteps.{filtered}
 use Rattle.graph_writer.proofs.PlanOfSteps.{planned-count, planned-each}
 use Rattle.graph_writer.proofs.PlanSteps.{all-words, is-plan}
 use Rattle.graph_writer.proofs.WriteSteps.{written}
 
 -- what is planned of each commit, by the levels that the plan has
-view-planned : (plan : NewPlan) (own : List Level) → plan.levels.now ≡ own → (p i : ℕ) (commit : NewCommit)
-    → slice_get plan.new.now.order.items p ≡ Some i → slice_get plan.commits.now i ≡ Some commit
+view-planned : {C : Type 0} {G : Ghosts C} (plan : NewPlan C G) (own : List Level) → plan.levels.now ≡ own
+    → (p i : ℕ) (commit : NewCommit) → slice_get plan.new.now.order.items p ≡ Some i → slice_get plan.commits.now i ≡ Some commit
     → IsSomeAnd (slice_get (plan_of plan).commits.items p)
     (IsPlanOf commit (parent_list plan.new.now.parents p) (level_at own p).generation)
 view-planned plan own same =
@@ -46,19 +47,19 @@ view-planned plan own same =
     same (planned-each plan)
 
 -- the plan has as many extra words as the commits
-pub view-words : (plan : NewPlan) (layers : List Layer) (own : List Level) → plan.levels.now ≡ own
+pub view-words : {C : Type 0} {G : Ghosts C} (plan : NewPlan C G) (layers : List Layer) (own : List Level) → plan.levels.now ≡ own
     → IsNewLayer layers plan.commits.now plan.new.now
     → length (all_extra_words (plan_of plan).commits.items) ≡ word_count plan.commits.now
 view-words plan layers own same is_new =
     all-words layers plan.commits.now plan.new.now is_new own (plan_of plan) (planned-count plan) (view-planned plan own same)
 
-pub few-words : (plan : NewPlan) (layers : List Layer) (own : List Level)
+pub few-words : {C : Type 0} {G : Ghosts C} (plan : NewPlan C G) (layers : List Layer) (own : List Level)
     → length (all_extra_words (plan_of plan).commits.items) < top_bit → plan.levels.now ≡ own
     → IsNewLayer layers plan.commits.now plan.new.now → word_count plan.commits.now < 2 ^ 31
 few-words plan layers own few same is_new = omega (arith, few, view-words plan layers own same is_new)
 
 -- one that has too many
-pub many-words : (plan : NewPlan) (b : Bool) (layers : List Layer) (own : List Level)
+pub many-words : {C : Type 0} {G : Ghosts C} (plan : NewPlan C G) (b : Bool) (layers : List Layer) (own : List Level)
     → (IsTrue b ↔ (length (all_extra_words (plan_of plan).commits.items) < top_bit)) → b ≡ false → plan.levels.now ≡ own
     → IsNewLayer layers plan.commits.now plan.new.now → 2 ^ 31 ≤ word_count plan.commits.now
 many-words plan b layers own told no_few same is_new =
@@ -70,7 +71,7 @@ many-words plan b layers own told no_few same is_new =
     (cases_lt (word_count plan.commits.now) (2 ^ 31))
 
 -- a file can hold a plan with few
-pub view-fits : (plan : NewPlan) (layers : List Layer) (own : List Level)
+pub view-fits : {C : Type 0} {G : Ghosts C} (plan : NewPlan C G) (layers : List Layer) (own : List Level)
     → length (all_extra_words (plan_of plan).commits.items) < top_bit → plan.levels.now ≡ own
     → IsNewLayer layers plan.commits.now plan.new.now → new_layer_refusal layers plan.commits.now ≡ None
     → (known : LevelsBelow) → AreLevelsBelow layers known → plan.kind ≡ kind_to_write layers plan.commits.now
@@ -88,7 +89,8 @@ view-fits plan layers own few same is_new none known below kind bases fits level
     none known below kind bases fits leveled capped sized kept (omega (arith, few, view-words plan layers own same is_new))
 
 -- its file is one of a layer with the commits
-pub view-written : (plan : NewPlan) (bytes path : List ℕ) → IsFileOf (plan_of plan) bytes path → (layers : List Layer)
+pub view-written : {C : Type 0} {G : Ghosts C} (plan : NewPlan C G) (bytes path : List ℕ) → IsFileOf (plan_of plan) bytes path
+    → (layers : List Layer)
     → IsNewLayer layers plan.commits.now plan.new.now → new_layer_refusal layers plan.commits.now ≡ None
     → (known : LevelsBelow) → AreLevelsBelow layers known → (times : List ℕ)
     → times ≡ map (λ i. get_or (new_times plan.commits.now) i 0) plan.new.now.order.items → (own : List Level)

@@ -9,26 +9,26 @@ use Rattle.graph_writer.specs.WriteRefusal.{is_unknown}
 use Rattle.graph_writer.specs.declared.resolve.Known.{Known}
 
 -- the layers below, none where there is no graph
-abbrev pub layers_below : Known → List Layer
+abbrev pub layers_below : {C : Type 0} → Known C → List Layer
 layers_below known = layers_of_below known.below
 
-abbrev pub ids_below : Known → List (List ℕ)
+abbrev pub ids_below : {C : Type 0} → Known C → List (List ℕ)
 ids_below known = graph_ids (layers_below known)
 
 -- an id that nothing stands for
-abbrev pub is_unknown_to : Known → List ℕ → Bool
+abbrev pub is_unknown_to : {C : Type 0} → Known C → List ℕ → Bool
 is_unknown_to known id = is_unknown (ids_below known) known.commits.now id
 
 -- the ids of the commits that are handed in, in their order
-abbrev pub new_ids_in_order : Known → List (List ℕ)
+abbrev pub new_ids_in_order : {C : Type 0} → Known C → List (List ℕ)
 new_ids_in_order known = ids_in_order known.commits.now known.order.now
 
 -- all ids that a parent may have, in the order of positions
-abbrev pub all_ids : Known → List (List ℕ)
+abbrev pub all_ids : {C : Type 0} → Known C → List (List ℕ)
 all_ids known = ids_below known ++ new_ids_in_order known
 
 -- The order is that of the commits, which are few enough for positions.
-pub record IsKnown (known : Known) : Type 0 where
+pub record IsKnown {C : Type 0} (known : Known C) : Type 0 where
   pub start : known.start ≡ total (layers_below known)
   pub order : IsOrder known.commits.now known.order.now
   pub few : known.start + length known.commits.now < 2 ^ 32

@@ -2,6 +2,7 @@
 use Rattle.std.specs.Prelude.{◌≡◌, ◌+◌, ◌<◌, ◌^◌, ℕ, List, [], All, length, map, slice_index, slice_index_or, slice_range, refl}
 use Rattle.std.specs.Prelude.{option_map}
 use Rattle.std.specs.List.{range_with_len}
+use Rattle.gix_hash_core.specs.Oid.{oid_bytes}
 use Rattle.graph_encoder.proofs.RoomSteps.{none-room, part-room, map-room}
 use Rattle.graph_encoder.specs.declared.plan.LayerPlan.{LayerPlan}
 use Rattle.graph_encoder.specs.declared.plan.PlanCommit.{PlanCommit}
@@ -12,6 +13,7 @@ use Rattle.graph_levels.specs.ParentLists.{parent_list}
 use Rattle.graph_levels.specs.declared.level.Level.{Level}
 use Rattle.graph_writer.specs.declared.commit.NewCommit.{NewCommit}
 use Rattle.graph_writer.specs.declared.new_plan.NewPlan.{NewPlan}
+use Rattle.graph_writer.specs.declared.view.CommitView.{Ghosts}
 
 -- What is planned of a commit whose parents stand at these positions, and whose generation number is this level.
 pub record IsPlanOf (commit : NewCommit) (positions : List ℕ) (level : ℕ) (planned : PlanCommit) : Type 0 where
@@ -28,15 +30,15 @@ pub record AreOffsetsOf (times : List ℕ) (levels : List Level) (offsets : List
   pub each : (i : ℕ) → i < length levels → slice_index offsets i + slice_index times i ≡ (level_at levels i).date
 
 -- The row says what the commit says, which stands at this place.
-pub record IsNewRow (plan : NewPlan) (p : ℕ) (commit : NewCommit) (row : PlanRow) : Type 0 where
-  pub id : row.id.now ≡ commit.id
-  pub tree : row.tree.now ≡ commit.tree
+pub record IsNewRow {C : Type 0} {G : Ghosts C} (plan : NewPlan C G) (p : ℕ) (commit : NewCommit) (row : PlanRow) : Type 0 where
+  pub id : oid_bytes row.id ≡ commit.id
+  pub tree : oid_bytes row.tree ≡ commit.tree
   pub parents : row.parents.now ≡ parent_list plan.new.now.parents p
   pub generation : row.generation ≡ (level_at plan.levels.now p).generation
   pub time : row.time ≡ commit.time
 
 -- a commit that says nothing
-abbrev pub no_commit : NewPlan → NewCommit
+abbrev pub no_commit : {C : Type 0} {G : Ghosts C} → NewPlan C G → NewCommit
 no_commit plan =
     let order = plan.new.now.order in
     record {
@@ -55,11 +57,11 @@ no_commit plan =
     }
 
 -- the commit at a place
-abbrev pub commit_at : NewPlan → ℕ → NewCommit
+abbrev pub commit_at : {C : Type 0} {G : Ghosts C} → NewPlan C G → ℕ → NewCommit
 commit_at plan p = slice_index_or plan.commits.now (slice_index plan.new.now.order.items p) (no_commit plan)
 
 -- what is planned of it
-abbrev pub planned_at : NewPlan → ℕ → PlanCommit
+abbrev pub planned_at : {C : Type 0} {G : Ghosts C} → NewPlan C G → ℕ → PlanCommit
 planned_at plan p =
     let all = plan.new.now.parents.positions in
     let ends = plan.new.now.parents.ends.items in
@@ -82,7 +84,7 @@ planned_at plan p =
     }
 
 -- the plan that is read off
-unfoldable pub plan_of : NewPlan → LayerPlan
+unfoldable pub plan_of : {C : Type 0} {G : Ghosts C} → NewPlan C G → LayerPlan
 plan_of plan =
     let order = plan.new.now.order in
     let planned = map (planned_at plan) (range_with_len 0 (length order.items)) in

@@ -3,10 +3,12 @@
 
 ghost use Rattle.std.specs.Prelude.{◌≡◌, ◌<◌, ◌≤◌, ℕ, length, slice_index};
 ghost use Rattle.gix_commitgraph.specs.Fronts.{front_of};
+ghost use Rattle.gix_hash_core.specs.Oid.{oid_bytes};
 
-use crate::commit::NewCommit;
+use crate::handed::Handed;
 use crate::order::FrontPlace;
-use gix_hash_core::ObjectId;
+use crate::view::CommitView;
+use gix_hash_core::oid;
 use std::alloc::{AllocError, Global};
 
 /// About how many ids share a start.
@@ -17,12 +19,12 @@ const MOST_EACH: usize = 8;
 
 /// The number that the first eight bytes of an id make. Two ids hardly ever have one front, unless
 /// someone made them so.
-pub(crate) fn front(id: &ObjectId) -> u64
-    ensures front { result ≡ front_of id.now }
-    ensures long { 8 ≤ length id.now }
-    ensures bytes { (k : ℕ) → slice_index id.now k < 256 }
+pub(crate) fn front(id: oid<'_>) -> u64
+    ensures front { result ≡ front_of (oid_bytes id.entry) }
+    ensures long { 8 ≤ length (oid_bytes id.entry) }
+    ensures bytes { (k : ℕ) → slice_index (oid_bytes id.entry) k < 256 }
 {
-    let id = id.as_oid().as_bytes();
+    let id = id.as_bytes();
     u64::from_be_bytes([id[0], id[1], id[2], id[3], id[4], id[5], id[6], id[7]])
 }
 
@@ -93,9 +95,9 @@ const BLOCK: usize = 128;
 /// are guessed for a block of commits at a time, each step for all of them, so that the processor
 /// waits for many reads at once. Its cache has what they read when the guesses are taken.
 #[derive(Drop)]
-pub(crate) struct Guesses<'a> {
+pub(crate) struct Guesses<'a, C: CommitView> {
     guide: &'a Guide,
-    commits: &'a [NewCommit],
+    commits: &'a Handed<'a, C>,
     order: &'a [usize],
     wanted: Vec<u64>,
     guessed: Vec<u32>,
@@ -103,14 +105,14 @@ pub(crate) struct Guesses<'a> {
     next: usize,
 }
 
-impl<'a> Guesses<'a> {
+impl<'a, C: CommitView> Guesses<'a, C> {
     /// Guesses for the parents of these commits, by the guide to them.
     pub(crate) fn of(
         alloc: Global,
         guide: &'a Guide,
-        commits: &'a [NewCommit],
+        commits: &'a Handed<'a, C>,
         order: &'a [usize],
-    ) -> Guesses<'a> {
+    ) -> Guesses<'a, C> {
         Guesses {
             guide,
             commits,
@@ -139,9 +141,7 @@ impl<'a> Guesses<'a> {
         let commits = self.commits;
         let order = self.order;
         for number in order.iter().skip(place).take(BLOCK) {
-            for id in parents_of(commits, *number) {
-                self.wanted.push(front(id))?;
-            }
+            push_fronts(commits, *number, &mut self.wanted)?;
         }
         let guide = self.guide;
         for front in &self.wanted {
@@ -169,21 +169,28 @@ impl<'a> Guesses<'a> {
     }
 }
 
-/// The parents of the commit of this number, none past the last.
-fn parents_of(commits: &[NewCommit], number: usize) -> &[ObjectId] {
-    match commits.get(number) {
-        Some(commit) => &commit.parents,
-        None => &[],
+/// Adds the fronts of the ids of a commit's parents, none past the last commit.
+fn push_fronts<C: CommitView>(
+    commits: &Handed<'_, C>,
+    number: usize,
+    fronts: &mut Vec<u64>,
+) -> Result<(), AllocError> {
+    if number < commits.len() {
+        let commit = commits.at(number);
+        for parent in 0..commit.parent_count() {
+            fronts.push(front(commit.parent(parent)))?;
+        }
     }
+    Ok(())
 }
 
 /// The front of the id at a place of the commits in this order, 0 past the last.
-fn front_at(commits: &[NewCommit], order: &[usize], place: u32) -> u64 {
+fn front_at<C: CommitView>(commits: &Handed<'_, C>, order: &[usize], place: u32) -> u64 {
     match order.get(place as usize) {
-        Some(number) => match commits.get(*number) {
-            Some(commit) => front(&commit.id),
-            None => 0,
-        },
-        None => 0,
+        Some(number) if *number < commits.len() => {
+            let commit = commits.at(*number);
+            front(commit.id())
+        }
+        _ => 0,
     }
 }

@@ -1,6 +1,6 @@
 //! What a new layer is to say of its commits.
 
-ghost use Rattle.std.specs.Prelude.{◌≡◌, ◌≤◌, IfOk, IfErr, None, length};
+ghost use Rattle.std.specs.Prelude.{◌≡◌, ◌≤◌, [], IfOk, IfErr, None, length};
 ghost use Rattle.gix_chunk_core.specs.FirstFault.{first_below};
 ghost use Rattle.gix_commitgraph.specs.Graph.{graph_ids, total};
 ghost use Rattle.graph_format.specs.Reports.{Reports};
@@ -13,8 +13,10 @@ use crate::below::check_new;
 use crate::check::check_each;
 use crate::commit::{NewCommit, WriteError};
 use crate::guide::Guide;
+use crate::handed::{Handed, handed_in};
 use crate::order::{order_of, places_by_front};
 use crate::resolve::Known;
+use crate::view::CommitView;
 use gix_commitgraph::MAX_COMMITS;
 use gix_hash_core::Kind;
 use graph_history::Checked;
@@ -50,15 +52,16 @@ impl NewLayer {
         ensures refusal { IfErr result
             (MayRefuseNewLayer (layers_of_below below.entry) commits.now) }
     {
-        let (new, _) = NewLayer::with_times(alloc, below, commits)?;
+        let handed = handed_in(commits);
+        let (new, _) = NewLayer::with_times(alloc, below, &handed)?;
         Ok(new)
     }
 
     /// The same, and the times of the commits in their order.
-    pub(crate) fn with_times(
+    pub(crate) fn with_times<C: CommitView>(
         alloc: Global,
         below: Option<&Checked<'_>>,
-        commits: &[NewCommit],
+        commits: &Handed<'_, C>,
     ) -> Result<(NewLayer, Vec<u64>), WriteError>
         ensures layer { IfOk result (λ found.
             IsNewLayer (layers_of_below below.entry) commits.now found.0) }
@@ -90,7 +93,10 @@ impl NewLayer {
 }
 
 /// Refuses commits for what needs no memory to be seen: one is wrong by itself, or there are none.
-fn check_alone(below: Option<&Checked<'_>>, commits: &[NewCommit]) -> Result<(), WriteError>
+fn check_alone<C: CommitView>(
+    below: Option<&Checked<'_>>,
+    commits: &Handed<'_, C>,
+) -> Result<(), WriteError>
     ensures { Reports result (plain_refusal (layers_of_below below.entry) commits.now) }
 {
     check_each(kind_to_write(below, commits), commits)?;
@@ -101,21 +107,35 @@ fn check_alone(below: Option<&Checked<'_>>, commits: &[NewCommit]) -> Result<(),
 }
 
 /// The kind of hash of the layer.
-pub(crate) fn kind_to_write(below: Option<&Checked<'_>>, commits: &[NewCommit]) -> Kind
+pub(crate) fn kind_to_write<C: CommitView>(
+    below: Option<&Checked<'_>>,
+    commits: &Handed<'_, C>,
+) -> Kind
     ensures { result ≡ kind_to_write (layers_of_below below.entry) commits.now }
 {
     match below {
         Some(graph) => graph.graph().object_hash(),
-        None => match commits.first() {
-            Some(first) => first.id.as_oid().kind(),
-            None => Kind::shortest(),
-        },
+        None => kind_of_first(commits),
     }
+}
+
+/// The kind of hash of the first commit.
+fn kind_of_first<C: CommitView>(commits: &Handed<'_, C>) -> Kind
+    ensures { result ≡ kind_to_write [] commits.now }
+{
+    if commits.is_empty() {
+        return Kind::shortest();
+    }
+    let first = commits.at(0);
+    first.id().kind()
 }
 
 /// Refuses the first commit whose id the graph below has, if there is a graph.
 #[tactic(auto, using(crate::proofs::RefusalSteps::none_below))]
-fn check_all_new(below: Option<&Checked<'_>>, commits: &[NewCommit]) -> Result<(), WriteError>
+fn check_all_new<C: CommitView>(
+    below: Option<&Checked<'_>>,
+    commits: &Handed<'_, C>,
+) -> Result<(), WriteError>
     ensures { Reports result
         (first_below (below_at (graph_ids (layers_of_below below.entry)) commits.now)
         (length commits.now)) }

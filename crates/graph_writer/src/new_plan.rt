@@ -4,22 +4,23 @@
 ghost use Rattle.std.specs.Prelude.{◌≡◌, ◌<◌, length, All};
 ghost use Rattle.graph_levels.specs.ParentLists.{commit_count};
 
-use crate::commit::NewCommit;
 use crate::filters::NewFilters;
+use crate::handed::Handed;
 use crate::new_layer::NewLayer;
+use crate::view::CommitView;
 use gix_hash_core::{Kind, ObjectId};
 use graph_encoder::{PlanFilters, PlanRow, PlanView};
 use graph_levels::Level;
 
 /// What the file of a new layer is to hold.
 #[derive(Drop)]
-pub(crate) struct NewPlan<'a> {
+pub(crate) struct NewPlan<'a, C: CommitView> {
     /// The kind of all ids.
     pub(crate) kind: Kind,
     /// The checksums of the layers below, the lowest first.
     pub(crate) bases: Vec<ObjectId>,
     /// The commits that are handed in.
-    pub(crate) commits: &'a [NewCommit],
+    pub(crate) commits: &'a Handed<'a, C>,
     /// Their order, and the positions of their parents.
     pub(crate) new: &'a NewLayer,
     /// Their levels, in that order.
@@ -33,7 +34,7 @@ pub(crate) struct NewPlan<'a> {
     ghost leveled: { length levels.now ≡ length new.now.order.items },
 }
 
-impl NewPlan<'_> {
+impl<C: CommitView> NewPlan<'_, C> {
     ghost use Rattle.std.specs.Prelude.{ℕ, Some, slice_get};
     ghost use Rattle.graph_writer.specs.PlannedCommits.{IsNewRow};
     ghost use Rattle.graph_writer.specs.declared.commit.NewCommit.{NewCommit};
@@ -46,19 +47,19 @@ impl NewPlan<'_> {
             → slice_get self.now.commits.now i ≡ Some commit
             → IsNewRow self.now place commit result }
     {
-        let commit = &self.commits[self.new.order[place]];
+        let commit = self.commits.at(self.new.order[place]);
         PlanRow {
-            id: &commit.id,
-            tree: &commit.tree,
+            id: commit.id(),
+            tree: commit.tree(),
             parents: self.new.parents.of(place),
             generation: self.levels[place].generation,
-            time: commit.time,
+            time: commit.time(),
         }
     }
 }
 
 #[tactic(auto, unfolding(crate::specs::PlannedCommits::plan_of))]
-impl PlanView for NewPlan<'_> {
+impl<C: CommitView> PlanView for NewPlan<'_, C> {
     ghost use Rattle.graph_writer.specs.PlannedCommits.{plan_of};
 
     ghost as_plan = { plan_of };

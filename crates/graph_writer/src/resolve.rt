@@ -5,6 +5,7 @@ ghost use Rattle.std.specs.Prelude.{◌≡◌, ◌↔◌, ◌⊎◌, ◌<◌, �
 ghost use Rattle.std.specs.Prelude.{IsTrue, IfSome, IfNone, is_none, Some, None, length, position};
 ghost use Rattle.std.specs.Prelude.{slice_get};
 ghost use Rattle.gix_chunk_core.specs.FirstFault.{first_below};
+ghost use Rattle.gix_hash_core.specs.Oid.{oid_bytes};
 ghost use Rattle.graph_levels.specs.ParentLists.{commit_count, parent_list};
 ghost use Rattle.graph_format.specs.Lookup.{scan};
 ghost use Rattle.graph_writer.specs.NewCommits.{new_ids, HoldIds};
@@ -12,56 +13,59 @@ ghost use Rattle.graph_writer.specs.NewLayers.{times_in_order};
 ghost use Rattle.graph_writer.specs.WriteRefusal.{parent_at};
 ghost use Rattle.graph_writer.specs.declared.commit.NewCommit.{NewCommit};
 
-use crate::commit::{NewCommit, WriteError};
+use crate::commit::WriteError;
 use crate::guide::{Guesses, Guide};
-use gix_hash_core::ObjectId;
+use crate::handed::{Handed, HandedCommit};
+use crate::ids::{are_one, compare};
+use crate::view::CommitView;
+use gix_hash_core::oid;
 use graph_history::Checked;
 use graph_levels::ParentLists;
 use std::alloc::{AllocError, Global};
 use std::cmp::Ordering;
 
-/// Whether two ids are one. Those of SHA-1 are compared as arrays, whose length the compiler knows.
-fn are_one(id: &ObjectId, other: &ObjectId) -> bool
-    ensures { IsTrue result ↔ id.now ≡ other.now }
-{
-    let id = id.as_oid().as_bytes();
-    let other = other.as_oid().as_bytes();
-    match (<&[u8; 20]>::try_from(id), <&[u8; 20]>::try_from(other)) {
-        (Ok(id), Ok(other)) => *id == *other,
-        _ => id == other,
-    }
-}
-
 /// Where each commit stands whose id a parent may have.
-#[derive(Clone, Copy, Drop)]
-pub(crate) struct Known<'a> {
+#[derive(Drop)]
+pub(crate) struct Known<'a, C: CommitView> {
     /// The graph below, if there is one.
     pub(crate) below: Option<&'a Checked<'a>>,
     /// The number of its commits.
     pub(crate) start: u32,
     /// The commits that are handed in.
-    pub(crate) commits: &'a [NewCommit],
+    pub(crate) commits: &'a Handed<'a, C>,
     /// Their numbers, in the order of their ids.
     pub(crate) order: &'a [usize],
 }
 
-impl Known<'_> {
+impl<C: CommitView> Known<'_, C> {
     ghost use Rattle.graph_writer.specs.Known.{IsKnown, ids_below, new_ids_in_order};
     ghost use Rattle.graph_writer.specs.Known.{is_unknown_to, all_ids};
     ghost use Rattle.graph_writer.specs.declared.commit.WriteError.TheVariants.{Parent};
 
+    /// The id of the commit at a place in the order of ids.
+    #[inline(always)]
+    fn id_at(&self, place: usize) -> oid<'_>
+        requires known { IsKnown self.now }
+        requires place { place < length self.now.order.now }
+        ensures { slice_get (new_ids_in_order self.now) place ≡ Some (oid_bytes result) }
+    {
+        let commit = self.commits.at(self.order[place]);
+        commit.id()
+    }
+
     /// The place of the commit with an id among those that are handed in, in the order of ids.
-    fn search(&self, id: &ObjectId) -> Option<usize>
+    fn search(&self, id: oid<'_>) -> Option<usize>
         requires { IsKnown self.now }
         ensures some { IfSome result (λ place.
-            slice_get (new_ids_in_order self.now) place ≡ Some id.now) }
-        ensures none { is_none result ≡ is_none (scan (new_ids self.now.commits.now) id.now) }
+            slice_get (new_ids_in_order self.now) place ≡ Some (oid_bytes id.entry)) }
+        ensures none { is_none result
+            ≡ is_none (scan (new_ids self.now.commits.now) (oid_bytes id.entry)) }
     {
         let mut low = 0;
         let mut high = self.order.len();
         while low < high {
             let middle = low + (high - low) / 2;
-            match self.commits[self.order[middle]].id.cmp(id) {
+            match compare(self.id_at(middle), id) {
                 Ordering::Equal => return Some(middle),
                 Ordering::Less => low = middle + 1,
                 Ordering::Greater => high = middle,
@@ -72,14 +76,15 @@ impl Known<'_> {
 
     /// The same, where this place is looked at first.
     #[inline(always)]
-    fn place_of(&self, id: &ObjectId, guess: u32) -> Option<usize>
+    fn place_of(&self, id: oid<'_>, guess: u32) -> Option<usize>
         requires { IsKnown self.now }
         ensures some { IfSome result (λ place.
-            slice_get (new_ids_in_order self.now) place ≡ Some id.now) }
-        ensures none { is_none result ≡ is_none (scan (new_ids self.now.commits.now) id.now) }
+            slice_get (new_ids_in_order self.now) place ≡ Some (oid_bytes id.entry)) }
+        ensures none { is_none result
+            ≡ is_none (scan (new_ids self.now.commits.now) (oid_bytes id.entry)) }
     {
         let place = guess as usize;
-        if place < self.order.len() && are_one(&self.commits[self.order[place]].id, id) {
+        if place < self.order.len() && are_one(self.id_at(place), id) {
             Some(place)
         } else {
             self.search(id)
@@ -88,11 +93,12 @@ impl Known<'_> {
 
     /// The position of the commit with an id.
     #[inline(always)]
-    fn position_of(&self, id: &ObjectId, guess: u32) -> Option<u32>
+    fn position_of(&self, id: oid<'_>, guess: u32) -> Option<u32>
         requires { IsKnown self.now }
-        ensures none { is_none result ≡ is_unknown_to self.now id.now }
+        ensures none { is_none result ≡ is_unknown_to self.now (oid_bytes id.entry) }
         ensures within { IfSome result (λ p. p < self.now.start + length self.now.commits.now) }
-        ensures id { IfSome result (λ p. slice_get (all_ids self.now) p ≡ Some id.now) }
+        ensures id { IfSome result (λ p.
+            slice_get (all_ids self.now) p ≡ Some (oid_bytes id.entry)) }
     {
         match self.place_of(id, guess) {
             Some(place) => Some(self.start + place as u32),
@@ -101,11 +107,11 @@ impl Known<'_> {
     }
 
     /// The position in the graph below of the commit with an id.
-    fn position_below(&self, id: &ObjectId) -> Option<u32>
-        ensures { result ≡ scan (ids_below self.now) id.now }
+    fn position_below(&self, id: oid<'_>) -> Option<u32>
+        ensures { result ≡ scan (ids_below self.now) (oid_bytes id.entry) }
     {
         let graph = self.below?;
-        let pos = graph.find(id.as_oid())?;
+        let pos = graph.find(id)?;
         Some(pos.0)
     }
 
@@ -114,8 +120,8 @@ impl Known<'_> {
     /// one.
     fn put_parents(
         &self,
-        commit: &NewCommit,
-        guesses: &mut Guesses<'_>,
+        commit: &HandedCommit<'_, C>,
+        guesses: &mut Guesses<'_, C>,
         positions: &mut Vec<u32>,
     ) -> Result<Option<usize>, AllocError>
         requires { IsKnown self.now }
@@ -127,9 +133,8 @@ impl Known<'_> {
             (HoldIds (all_ids self.now) positions.new.items commit.now.parents.items)) }
     {
         positions.clear();
-        let parents = commit.parents.as_slice();
-        for (number, id) in parents.iter().enumerate() {
-            match self.position_of(id, guesses.next()) {
+        for number in 0..commit.parent_count() {
+            match self.position_of(commit.parent(number), guesses.next()) {
                 Some(position) => positions.push(position)?,
                 None => return Ok(Some(number)),
             }
@@ -138,13 +143,12 @@ impl Known<'_> {
     }
 
     /// The number of the first parent of a commit that is not known, if there is one.
-    fn unknown_parent(&self, commit: &NewCommit) -> Option<usize>
+    fn unknown_parent(&self, commit: &HandedCommit<'_, C>) -> Option<usize>
         requires { IsKnown self.now }
         ensures { result ≡ position (is_unknown_to self.now) commit.now.parents.items }
     {
-        let parents = commit.parents.as_slice();
-        for (number, id) in parents.iter().enumerate() {
-            match self.position_of(id, 0) {
+        for number in 0..commit.parent_count() {
+            match self.position_of(commit.parent(number), 0) {
                 Some(_) => {}
                 None => return Some(number),
             }
@@ -163,7 +167,8 @@ impl Known<'_> {
             (length self.now.commits.now) ≡ Some result }
     {
         for earlier in 0..number {
-            match self.unknown_parent(&self.commits[earlier]) {
+            let commit = self.commits.at(earlier);
+            match self.unknown_parent(&commit) {
                 Some(parent) => return WriteError::Parent(earlier, parent),
                 None => {}
             }
@@ -203,12 +208,12 @@ impl Known<'_> {
         for place in 0..self.order.len() {
             guesses.go_on(place)?;
             let number = self.order[place];
-            let commit = &self.commits[number];
-            match self.put_parents(commit, &mut guesses, &mut positions)? {
+            let commit = self.commits.at(number);
+            match self.put_parents(&commit, &mut guesses, &mut positions)? {
                 Some(parent) => return Err(self.first_unknown(number, parent)),
                 None => lists.push(&positions)?,
             }
-            times.push_reserved(commit.time);
+            times.push_reserved(commit.time());
         }
         Ok((lists, times))
     }

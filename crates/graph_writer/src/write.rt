@@ -1,7 +1,7 @@
 //! Writing a layer.
 
 ghost use Rattle.std.specs.Prelude.{◌≡◌, ◌<◌, ◌≤◌, ℕ, List, IfOk, IfErr, IfSome, length};
-ghost use Rattle.std.specs.Prelude.{slice_index};
+ghost use Rattle.std.specs.Prelude.{All, map, slice_index};
 ghost use Rattle.graph_walks.specs.Dates.{AreRight};
 ghost use Rattle.graph_walks.specs.Generations.{AreLocal};
 ghost use Rattle.graph_walks.specs.History.{Node};
@@ -17,10 +17,12 @@ ghost use Rattle.graph_writer.specs.WrittenLayers.{IsWritten};
 
 use crate::commit::{NewCommit, WriteError};
 use crate::filters::NewFilters;
+use crate::handed::{Handed, handed_in};
 use crate::levels_below::LevelsBelow;
 use crate::new_layer::{NewLayer, kind_to_write};
 use crate::new_plan::NewPlan;
 use crate::plan::{checksums_below, filters_in_order, offsets_of};
+use crate::view::CommitView;
 use graph_encoder::{build_view, has_few_extra_words};
 use graph_history::Checked;
 use graph_levels::{Level, LevelsError, levels};
@@ -58,11 +60,53 @@ pub fn write_layer(
 /// # Errors
 ///
 /// Those of [`write_layer`].
-#[tactic(auto, using(crate::proofs::RefusalSteps::memory_laws))]
 pub fn write_layer_with_filters(
     alloc: Global,
     below: Option<&Checked<'_>>,
     commits: &[NewCommit],
+    filters: Option<&NewFilters>,
+) -> Result<Vec<u8>, WriteError>
+    requires { IfSome (filters_handed filters)
+        (λ f. filter_count f ≡ length commits.now) }
+    ensures written { IfOk result (λ bytes. IsWrittenWith (layers_of_below below.entry)
+        commits.now (filters_handed filters.entry) bytes.items) }
+    ensures accepted { IfOk result (λ _.
+        AreAccepted (layers_of_below below.entry) commits.now) }
+    ensures refusal { IfErr result (MayRefuseWriting (layers_of_below below.entry) commits.now) }
+{
+    let handed = handed_in(commits);
+    write_handed(alloc, below, &handed, filters)
+}
+
+/// The bytes of a layer with these commits, on top of a graph or on none, as [`write_layer`] writes
+/// them, wherever what the commits say stands. Nothing of them is copied.
+///
+/// # Errors
+///
+/// Those of [`write_layer`].
+pub fn write_layer_of<C: CommitView>(
+    alloc: Global,
+    below: Option<&Checked<'_>>,
+    commits: &[C],
+) -> Result<Vec<u8>, WriteError>
+    requires { All C.can_read commits.now }
+    ensures written { IfOk result (λ bytes. IsWritten (layers_of_below below.entry)
+        (map C.as_commit commits.now) bytes.items) }
+    ensures accepted { IfOk result (λ _.
+        AreAccepted (layers_of_below below.entry) (map C.as_commit commits.now)) }
+    ensures refusal { IfErr result
+        (MayRefuseWriting (layers_of_below below.entry) (map C.as_commit commits.now)) }
+{
+    let handed = Handed::of(commits);
+    write_handed(alloc, below, &handed, None)
+}
+
+/// The bytes of a layer with these commits and with these changed-path filters, if there are any.
+#[tactic(auto, using(crate::proofs::RefusalSteps::memory_laws))]
+fn write_handed<C: CommitView>(
+    alloc: Global,
+    below: Option<&Checked<'_>>,
+    commits: &Handed<'_, C>,
     filters: Option<&NewFilters>,
 ) -> Result<Vec<u8>, WriteError>
     requires { IfSome (filters_handed filters)

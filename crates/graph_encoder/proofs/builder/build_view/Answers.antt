@@ -1,4 +1,4 @@
-use Rattle.std.proofs.Common.{◌≡◌, ◌∙◌, List, ℕ, sym, subst}
+use Rattle.std.proofs.Common.{◌≡◌, ◌∙◌, ◌++◌, List, ℕ, sym, subst}
 use Rattle.gix_hash_core.specs.Digest.{digest_of}
 use Rattle.gix_hash_core.specs.Kind.{id_len}
 use Rattle.gix_hash_core.specs.declared.kind.Kind.{Kind}
@@ -19,7 +19,8 @@ bytes : (g : Over) (c : goal.In_ok-push_id g)
     → c.push_id.new.file.items ≡ planned_file (g.P.PlanView.as_plan c.args.plan.now)
 bytes g c =
     let plan = g.P.PlanView.as_plan c.args.plan.now in
-    planned_file-added plan _ _ _ _ _ c.in_ok-push_body.ensures.body c.in_ok-file.ensures.items c.in_ok-push_id.ensures
+    planned_file-added plan _ _ _ _ _ c.in_ok-push_body.ensures.body c.in_ok-file.ensures.items
+    (c.in_ok-push_id.ensures ∙ ap (λ (id : List ℕ). c.push_body.new.file.items ++ id) c.as_oid.ensures)
     (c.digest-checksum.ensures ∙ ap (λ (kind : Kind). digest_of kind c.deref.result.now) c.kind-kind.ensures)
     c.deref.ensures.value
 

@@ -36,7 +36,7 @@ loop-place-preserved g c =
     let within : i < length commits = omega arith in
     let here = row-here (g.P.PlanView.as_plan c.args.plan.now) i c.row.result within c.row.ensures in
     let first : c.first_byte-next.result ≡ slice_index here.0.id 0 = c.first_byte-next.ensures
-    ∙ ap (λ bytes. slice_index bytes 0) (c.as_oid.ensures ∙ here.1.says.id) in
+    ∙ ap (λ bytes. slice_index bytes 0) here.1.says.id in
     let bytes = bytes-more commits i c.first_byte-next.result here.0 within here.1.is first c.first_byte-next.type_inv
     old.invariant.bytes in
     elim new.branch [

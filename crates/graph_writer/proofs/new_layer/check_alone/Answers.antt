@@ -10,7 +10,7 @@ use Rattle.graph_writer.proofs.RefusalSteps.{own_fault, plain-first, plain-last}
 use Rattle.graph_writer.proofs.new_layer.check_alone.Goals as goal
 
 pub returns-in_err-check_each : goal.returns-in_err-check_each
-returns-in_err-check_each c =
+returns-in_err-check_each g c =
     let layers : List Layer = layers_of_below c.args.below in
     let commits = c.args.commits.now in
     let handed = err_from_is_err_and c.from_residual.result c.from_residual.ensures.1 in
@@ -20,7 +20,7 @@ returns-in_err-check_each c =
     ∙ c.in_err-check_each.ensures))
 
 pub returns-then-is_empty : goal.returns-then-is_empty
-returns-then-is_empty c =
+returns-then-is_empty g c =
     let layers : List Layer = layers_of_below c.args.below in
     let commits = c.args.commits.now in
     let own : own_fault layers commits ≡ None =
@@ -30,7 +30,7 @@ returns-then-is_empty c =
     plain-last layers commits true (Some error.Nothing) own empty refl
 
 pub returns : goal.returns
-returns c =
+returns g c =
     let layers : List Layer = layers_of_below c.args.below in
     let commits = c.args.commits.now in
     let own : own_fault layers commits ≡ None =

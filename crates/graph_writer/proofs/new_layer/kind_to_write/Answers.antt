@@ -6,7 +6,7 @@ use Rattle.graph_writer.proofs.RefusalSteps.{kind_of_layers}
 use Rattle.graph_writer.proofs.new_layer.kind_to_write.Goals as goal
 
 pub returns-in-Some : goal.returns-in-Some
-returns-in-Some c =
+returns-in-Some g c =
     kind_of_layers c.graph.result.now c.args.commits.now c.object_hash.result c.object_hash.ensures.kind
     c.object_hash.ensures.some
     ∙ ap (λ (layers : List Layer). kind_to_write layers c.args.commits.now)

@@ -8,7 +8,7 @@ use Rattle.graph_writer.proofs.NumberSteps.{AreNumbers}
 use Rattle.graph_writer.proofs.numbers.numbers_of.Given as goal
 
 abbrev pub invariant-loop-number : goal.invariant-loop-number
-invariant-loop-number l = record {
+invariant-loop-number g l = record {
   numbers : AreNumbers (new_ids l.commits) l.number (get (pointwise nat_eq) l.numbers);
   once : first_below (twice_at l.commits) l.number ≡ None;
 }

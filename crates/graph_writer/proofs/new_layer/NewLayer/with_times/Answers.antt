@@ -17,7 +17,7 @@ use Rattle.graph_writer.proofs.RefusalSteps.{refused-parent, refused-nothing, pl
 use Rattle.graph_writer.proofs.new_layer.NewLayer.with_times.Goals as goal
 
 pub returns-in_err-check_alone-clause-refusal : goal.returns-in_err-check_alone-clause-refusal
-returns-in_err-check_alone-clause-refusal c =
+returns-in_err-check_alone-clause-refusal g c =
     let layers : List Layer = layers_of_below c.args.below in
     let handed = err_from_is_err_and c.from_residual.result c.from_residual.ensures.1 in
     rw (handed.1, handed.2)
@@ -27,7 +27,7 @@ returns-in_err-check_alone-clause-refusal c =
     c.in_err-check_alone.ensures))
 
 pub returns-in_err-order-clause-refusal : goal.returns-in_err-order-clause-refusal
-returns-in_err-order-clause-refusal c =
+returns-in_err-order-clause-refusal g c =
     let layers : List Layer = layers_of_below c.args.below in
     let commits = c.args.commits.now in
     let own : own_fault layers commits ≡ None = plain-own layers commits c.in_ok-check_alone.ensures in
@@ -39,7 +39,7 @@ returns-in_err-order-clause-refusal c =
     ])
 
 pub returns-in_err-check_all_new-clause-refusal : goal.returns-in_err-check_all_new-clause-refusal
-returns-in_err-check_all_new-clause-refusal c =
+returns-in_err-check_all_new-clause-refusal g c =
     let layers : List Layer = layers_of_below c.args.below in
     let commits = c.args.commits.now in
     let own : own_fault layers commits ≡ None = plain-own layers commits c.in_ok-check_alone.ensures in
@@ -47,24 +47,24 @@ returns-in_err-check_all_new-clause-refusal c =
     rw (handed.1, handed.2)
     (inl (refused-below layers commits _ own c.in_ok-order.ensures.once c.in_err-check_all_new.ensures))
 
-pub returns-then-commits-start-clause-refusal : goal.returns-then-commits-start-clause-refusal
-returns-then-commits-start-clause-refusal c =
+pub returns-then-len-start-clause-refusal : goal.returns-then-len-start-clause-refusal
+returns-then-len-start-clause-refusal g c =
     let layers : List Layer = layers_of_below c.args.below in
     let commits = c.args.commits.now in
     let own : own_fault layers commits ≡ None = plain-own layers commits c.in_ok-check_alone.ensures in
     let many : MAX_COMMITS < total layers + length commits =
-    omega (arith, c.if-commits-start.true, c.number_below-start.ensures.commits, c.number_below-start.ensures.few) in
+    omega (arith, c.if-len-start.true, c.len.ensures, c.number_below-start.ensures.commits, c.number_below-start.ensures.few) in
     inl
     (refused-many layers commits own c.in_ok-order.ensures.once c.in_ok-check_all_new.ensures
     (lt-ltb MAX_COMMITS (total layers + length commits) many))
 
 pub returns-in_err-parents-clause-refusal : goal.returns-in_err-parents-clause-refusal
-returns-in_err-parents-clause-refusal c =
+returns-in_err-parents-clause-refusal g c =
     let layers : List Layer = layers_of_below c.args.below in
     let commits = c.args.commits.now in
     let own : own_fault layers commits ≡ None = plain-own layers commits c.in_ok-check_alone.ensures in
     let few : total layers + length commits ≤ MAX_COMMITS =
-    omega (arith, c.if-commits-start.false, c.number_below-start.ensures.commits, c.number_below-start.ensures.few) in
+    omega (arith, c.if-len-start.false, c.len.ensures, c.number_below-start.ensures.commits, c.number_below-start.ensures.few) in
     let handed = err_from_is_err_and c.from_residual-in_err-parents.result c.from_residual-in_err-parents.ensures.1 in
     rw (handed.1, handed.2)
     (elim c.in_err-parents.ensures.unknown [
@@ -76,14 +76,14 @@ returns-in_err-parents-clause-refusal c =
     ])
 
 pub resolve-requires : goal.resolve-requires
-resolve-requires c = record {
+resolve-requires g c = record {
   start = c.number_below-start.ensures.commits;
   order = subst (IsOrder c.args.commits.now) (sym c.deref-2.ensures.value) c.in_ok-order.ensures.order;
-  few = omega (arith, c.if-commits-start.false, c.number_below-start.ensures.few);
+  few = omega (arith, c.if-len-start.false, c.len.ensures, c.number_below-start.ensures.few);
 }
 
 pub returns-clause-layer : goal.returns-clause-layer
-returns-clause-layer c =
+returns-clause-layer g c =
     let layers : List Layer = layers_of_below c.args.below in
     let commits = c.args.commits.now in
     let parents = c.in_ok-parents.parents in
@@ -98,17 +98,17 @@ returns-clause-layer c =
     c.deref-2.ensures.value c.in_ok-parents.ensures.ids)
 
 pub returns-clause-accepted : goal.returns-clause-accepted
-returns-clause-accepted c =
+returns-clause-accepted g c =
     let layers : List Layer = layers_of_below c.args.below in
     let commits = c.args.commits.now in
     let own : own_fault layers commits ≡ None = plain-own layers commits c.in_ok-check_alone.ensures in
     let few : total layers + length commits ≤ MAX_COMMITS =
-    omega (arith, c.if-commits-start.false, c.number_below-start.ensures.commits, c.number_below-start.ensures.few) in
+    omega (arith, c.if-len-start.false, c.len.ensures, c.number_below-start.ensures.commits, c.number_below-start.ensures.few) in
     let some : (length commits == 0) ≡ false = plain-some layers commits c.in_ok-check_alone.ensures in
     refused-later layers commits None own c.in_ok-order.ensures.once c.in_ok-check_all_new.ensures
     (le-ltb MAX_COMMITS (total layers + length commits) few)
     (refused-nothing layers commits false None c.in_ok-parents.ensures.found some refl)
 
 pub returns-clause-times : goal.returns-clause-times
-returns-clause-times c =
+returns-clause-times g c =
     c.in_ok-parents.ensures.times ∙ ap (times_in_order c.args.commits.now) c.deref-2.ensures.value

@@ -3,4 +3,4 @@ use Rattle.graph_writer.proofs.PlanOfSteps.{planned-count}
 use Rattle.graph_writer.proofs.new_plan.NewPlanPlanView.commit_count.Goals as goal
 
 pub returns : goal.returns
-returns c = c.len.ensures ∙ c.args.self.now.new.now.order.ok.0 ∙ sym (planned-count c.args.self.now)
+returns g c = c.len.ensures ∙ c.args.self.now.new.now.order.ok.0 ∙ sym (planned-count c.args.self.now)

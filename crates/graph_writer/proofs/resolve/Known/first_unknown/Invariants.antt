@@ -6,4 +6,4 @@ use Rattle.graph_writer.proofs.resolve.Known.first_unknown.Given as goal
 
 -- the parents of the commits before this one are known
 abbrev pub invariant-loop-earlier : goal.invariant-loop-earlier
-invariant-loop-earlier l = first_below (parent_at (ids_below l.self) l.self.commits.now) l.earlier ≡ None
+invariant-loop-earlier g l = first_below (parent_at (ids_below l.self) l.self.commits.now) l.earlier ≡ None

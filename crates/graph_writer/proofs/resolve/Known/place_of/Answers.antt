@@ -1,24 +1,20 @@
-use Rattle.std.proofs.Common.{◌≡◌, List, ℕ, Some, slice_get, sym, ap, ◌∙◌, arith}
+use Rattle.std.proofs.Common.{◌≡◌, List, ℕ, Some, slice_get, sym, ap, ◌∙◌}
+use Rattle.gix_hash_core.specs.Oid.{oid_bytes}
 use Rattle.graph_writer.specs.Known.{new_ids_in_order}
-use Rattle.graph_writer.specs.declared.commit.NewCommit.{NewCommit}
-use Rattle.graph_writer.proofs.MixedSteps.{id-there}
 use Rattle.graph_writer.proofs.SearchSteps.{known-at}
+use Rattle.graph_writer.proofs.resolve.Known.place_of.Given.{Over}
 use Rattle.graph_writer.proofs.resolve.Known.place_of.Goals as goal
 use Rattle.graph_writer.proofs.resolve.Known.place_of.Goals.{Then-are_one}
 
 -- the id that was looked at is the one
-here : (c : Then-are_one) → slice_get (new_ids_in_order c.args.self.now) c.args.guess ≡ Some c.args.id.now
-here c =
-    let k = c.args.self.now in
-    id-there k.commits.now k.order.now c.args.guess c.index-self-self.result c.requires.order.mixed.each
-    (omega (arith, c.if-place-self.true)) c.index-self-self.is
-    ∙ ap (λ (id : List ℕ). Some id)
-    (ap (λ (x : NewCommit). x.id) c.index-self-self.is ∙ c.are_one.ensures.0 c.if-are_one.true)
+here : (g : Over) (c : Then-are_one g)
+    → slice_get (new_ids_in_order c.args.self.now) c.args.guess ≡ Some (oid_bytes c.args.id)
+here g c = c.id_at.ensures ∙ ap (λ (id : List ℕ). Some id) (c.are_one.ensures.0 c.if-are_one.true)
 
 pub returns-then-are_one-clause-some : goal.returns-then-are_one-clause-some
-returns-then-are_one-clause-some c = here c
+returns-then-are_one-clause-some g c = here g c
 
 pub returns-then-are_one-clause-none : goal.returns-then-are_one-clause-none
-returns-then-are_one-clause-none c =
+returns-then-are_one-clause-none g c =
     let k = c.args.self.now in
-    sym (known-at k.commits.now k.order.now c.requires.order c.args.guess c.args.id.now (here c))
+    sym (known-at k.commits.now k.order.now c.requires.order c.args.guess (oid_bytes c.args.id) (here g c))

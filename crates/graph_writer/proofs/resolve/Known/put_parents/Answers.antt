@@ -1,39 +1,39 @@
 use Rattle.std.proofs.Common.{◌≡◌, ◌+◌, ◌<◌, ◌++◌, ◌∷◌, [], ℕ, List, Option, Some, Bool, length, map, take, slice_get, get_or}
 use Rattle.std.proofs.Common.{position, sym, ap, ◌∙◌, arith, add-one, below_more}
 use Rattle.std.proofs.Math.Seq.{take-suc}
-use Rattle.std.proofs.lemmas.List.{get_or_default, map_push}
+use Rattle.std.proofs.lemmas.List.{map_push}
+use Rattle.std.proofs.lemmas.Option.{get_or_from_slice_get}
+use Rattle.gix_hash_core.specs.Oid.{oid_bytes}
 use Rattle.std.proofs.lemmas.List.Elements.{All-push, All-same}
 use Rattle.graph_writer.specs.Known.{is_unknown_to, all_ids}
 use Rattle.graph_writer.proofs.KnownSteps.{position-at, position-none}
 use Rattle.graph_writer.proofs.resolve.Known.put_parents.Goals as goal
 
 pub returns-in-None-clause-unknown : goal.returns-in-None-clause-unknown
-returns-in-None-clause-unknown c =
+returns-in-None-clause-unknown g c =
     let p : List ℕ → Bool = is_unknown_to c.args.self.now in
-    let xs : List (List ℕ) = c.as_slice-parents.result.now in
+    let xs : List (List ℕ) = c.args.commit.now.parents.items in
     let n : ℕ = c.loop-number.number in
-    let lt : n < length xs = omega arith in
-    let item = c.index-parents-number.result in
-    let read : get_or xs n [] ≡ item = sym (c.index-parents-number.is ∙ get_or_default xs n item [] lt) in
+    let lt : n < length xs = omega (arith, c.parent_count-number-end.ensures) in
+    let item : List ℕ = oid_bytes c.parent.result in
+    let read : get_or xs n [] ≡ item = get_or_from_slice_get xs n item [] c.parent.ensures in
     sym (position-at p xs n [] lt c.loop-number.invariant.known (ap p read ∙ sym c.in-None.ensures.none))
-    ∙ ap (position p) c.loop-number.invariant.parents
 
 pub loop-number-preserved : goal.loop-number-preserved
-loop-number-preserved c =
+loop-number-preserved g c =
     let k = c.args.self.now in
     let p : List ℕ → Bool = is_unknown_to k in
-    let xs : List (List ℕ) = c.as_slice-parents.result.now in
+    let xs : List (List ℕ) = c.args.commit.now.parents.items in
     let n : ℕ = c.loop-number.number in
-    let lt : n < length xs = omega arith in
-    let item = c.index-parents-number.result in
+    let lt : n < length xs = omega (arith, c.parent_count-number-end.ensures) in
+    let item : List ℕ = oid_bytes c.parent.result in
     let inv = c.loop-number.invariant in
     let old : List ℕ = c.loop-number.positions.items in
     let pushed : c.push.new.self.items ≡ old ++ c.in-Some.position ∷ [] = c.in_ok-push-in-Some.ensures.items in
-    let read : get_or xs n [] ≡ item = sym (c.index-parents-number.is ∙ get_or_default xs n item [] lt) in
+    let read : get_or xs n [] ≡ item = get_or_from_slice_get xs n item [] c.parent.ensures in
     let taken : take (n + 1) xs ≡ take n xs ++ get_or xs n [] ∷ [] = ap (λ (m : ℕ). take m xs) (add-one n)
     ∙ take-suc xs n [] lt in
     record {
-      parents = inv.parents;
       known = below_more _ _ inv.known (ap p read ∙ sym c.in-Some.ensures.none);
       within =
           All-same (λ (q : ℕ). q < k.start + length k.commits.now) c.push.new.self.items (old ++ c.in-Some.position ∷ []) pushed
@@ -50,8 +50,7 @@ loop-number-preserved c =
     }
 
 pub returns-clause-unknown : goal.returns-clause-unknown
-returns-clause-unknown c =
+returns-clause-unknown g c =
     let p : List ℕ → Bool = is_unknown_to c.args.self.now in
-    let xs : List (List ℕ) = c.as_slice-parents.result.now in
-    sym (position-none p xs [] (λ k lt. c.loop-number.invariant.known k (omega arith)))
-    ∙ ap (position p) c.loop-number.invariant.parents
+    let xs : List (List ℕ) = c.args.commit.now.parents.items in
+    sym (position-none p xs [] (λ k lt. c.loop-number.invariant.known k (omega (arith, lt, c.parent_count-number-end.ensures))))

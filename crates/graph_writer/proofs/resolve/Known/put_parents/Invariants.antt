@@ -3,9 +3,8 @@ use Rattle.graph_writer.specs.Known.{is_unknown_to, all_ids}
 use Rattle.graph_writer.proofs.resolve.Known.put_parents.Given as goal
 
 abbrev pub invariant-loop-number : goal.invariant-loop-number
-invariant-loop-number l = record {
-  parents : l.parents ≡ l.commit.parents.items;
-  known : (k : ℕ) → k < l.number → is_unknown_to l.self (get_or l.parents k []) ≡ false;
+invariant-loop-number g l = record {
+  known : (k : ℕ) → k < l.number → is_unknown_to l.self (get_or l.commit.parents.items k []) ≡ false;
   within : All (λ p. p < l.self.start + length l.self.commits.now) l.positions.items;
-  ids : map (slice_get (all_ids l.self)) l.positions.items ≡ map (λ id. Some id) (take l.number l.parents);
+  ids : map (slice_get (all_ids l.self)) l.positions.items ≡ map (λ id. Some id) (take l.number l.commit.parents.items);
 }

@@ -9,7 +9,7 @@ use Rattle.graph_writer.proofs.KnownSteps.{AreFoundTo}
 use Rattle.graph_writer.proofs.resolve.Known.resolve.Given as goal
 
 abbrev pub invariant-loop-place : goal.invariant-loop-place
-invariant-loop-place l = record {
+invariant-loop-place g l = record {
   count : commit_count l.lists ≡ l.place;
   within : (p : ℕ) → p < l.place → All (λ q. q < l.self.start + length l.self.commits.now) (parent_list l.lists p);
   ids : (p : ℕ) → p < l.place → (i : ℕ) (commit : NewCommit) → slice_get l.self.order.now p ≡ Some i

@@ -4,7 +4,5 @@ use Rattle.graph_writer.proofs.resolve.Known.unknown_parent.Given as goal
 
 -- the parents before this one are known
 abbrev pub invariant-loop-number : goal.invariant-loop-number
-invariant-loop-number l = record {
-  parents : l.parents ≡ l.commit.parents.items;
-  known : (k : ℕ) → k < l.number → is_unknown_to l.self (get_or l.parents k []) ≡ false;
-}
+invariant-loop-number g l =
+    (k : ℕ) → k < l.number → is_unknown_to l.self (get_or l.commit.parents.items k []) ≡ false
