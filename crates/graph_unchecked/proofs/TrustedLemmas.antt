@@ -10,7 +10,7 @@ use Rattle.gix_commitgraph.specs.Graph.{IsGraph}
 use Rattle.gix_commitgraph.specs.OpenAlways.{IsFromPath}
 use Rattle.commit_search.specs.Positions.{numbers_of}
 use Rattle.graph_parts.specs.PathOpening.{opened_at}
-use Rattle.graph_parts.specs.Shown.{AreGraphParts, ArePartsOf, SeesMore, Shows}
+use Rattle.graph_parts.specs.Shown.{ArePartsOf, SeesMore, Shows}
 use Rattle.graph_parts.specs.declared.parts.GraphParts.{GraphParts}
 use Rattle.graph_parts.proofs.TreeLemmas.{seen-shown}
 use Rattle.graph_unchecked.specs.PartSource.{ReadsOn}
@@ -22,7 +22,6 @@ use Rattle.graph_unchecked.specs.declared.between.Between.TheVariants.{Known}
 use Rattle.graph_unchecked.specs.declared.unread.Unread.{Unread}
 use Rattle.graph_unchecked.specs.declared.unread.Unread.TheVariants.{Device}
 use Rattle.graph_unchecked.proofs.SearchLemmas.{shows-after}
-use Rattle.graph_unchecked.proofs.SourceLemmas.{reads_on}
 
 -- parts that are read one after another
 pub reads-then : (known : Option Tree) (old mid new : GraphParts) → ReadsOn known old mid → ReadsOn known mid new
@@ -33,20 +32,6 @@ reads-then known old mid new first second = record {
   of = λ of. second.of (first.of of);
   kept = λ t tells. first.kept t (second.kept t tells);
 }
-
--- after a lookup
-pub reads_after_lookup : (known later : Option Tree) (old mid new : GraphParts) → later ≡ known → AreGraphParts mid
-    → SeesMore known old mid → ReadsOn later mid new → ReadsOn known old new
-reads_after_lookup known later old mid new same right sees reads =
-    reads-then known old mid new (reads_on known old mid right sees)
-    (subst (λ (k : Option Tree). ReadsOn k mid new) same reads)
-
--- ids after a search
-pub ids_after_search : (known later : Option Tree) (old mid new : GraphParts) → later ≡ known → ReadsOn known old mid
-    → AreGraphParts new → SeesMore later mid new → ReadsOn known old new
-ids_after_search known later old mid new same reads right sees =
-    reads-then known old mid new reads
-    (reads_on known mid new right (subst (λ (k : Option Tree). SeesMore k mid new) same sees))
 
 -- the parts of what was opened
 pub of-opened : (known : Option Tree) (path : List ℕ) (parts : GraphParts)

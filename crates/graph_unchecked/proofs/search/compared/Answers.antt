@@ -2,20 +2,29 @@
 use Rattle.std.proofs.Common.{Option, sym, subst, ◌∙◌}
 use Rattle.graph_folder.specs.Tree.{Tree}
 use Rattle.commit_search.specs.Positions.{numbers_of}
-use Rattle.graph_parts.specs.Shown.{Shows}
+use Rattle.graph_parts.specs.Shown.{SeesMore, Shows}
 use Rattle.graph_unchecked.proofs.SearchLemmas.{bases-with-ids, shows-after}
-use Rattle.graph_unchecked.proofs.TrustedLemmas.{ids_after_search}
+use Rattle.graph_unchecked.proofs.SourceLemmas.{reads_on}
+use Rattle.graph_unchecked.proofs.TrustedLemmas.{reads-then}
 use Rattle.graph_unchecked.proofs.search.compared.Goals as goal
 
 pub returns-in_err-base_ids-clause-reads : goal.returns-in_err-base_ids-clause-reads
 returns-in_err-base_ids-clause-reads g c =
-    ids_after_search _ _ c.args.parts.now c.bases_of.new.parts c.read_ids.new.parts c.bases_of.ensures.tree
-    c.bases_of.ensures.reads c.read_ids.ensures.parts c.read_ids.ensures.sees
+    let known = g.T.Folder.tree c.args.folder.now in
+    let mid = c.bases_of.new.parts in
+    let new = c.read_ids.new.parts in
+    reads-then known c.args.parts.now mid new c.bases_of.ensures.reads
+    (reads_on known mid new c.read_ids.ensures.parts
+    (subst (λ (k : Option Tree). SeesMore k mid new) c.bases_of.ensures.tree c.read_ids.ensures.sees))
 
 pub returns-clause-reads : goal.returns-clause-reads
 returns-clause-reads g c =
-    ids_after_search _ _ c.args.parts.now c.bases_of.new.parts c.read_ids.new.parts c.bases_of.ensures.tree
-    c.bases_of.ensures.reads c.read_ids.ensures.parts c.read_ids.ensures.sees
+    let known = g.T.Folder.tree c.args.folder.now in
+    let mid = c.bases_of.new.parts in
+    let new = c.read_ids.new.parts in
+    reads-then known c.args.parts.now mid new c.bases_of.ensures.reads
+    (reads_on known mid new c.read_ids.ensures.parts
+    (subst (λ (k : Option Tree). SeesMore k mid new) c.bases_of.ensures.tree c.read_ids.ensures.sees))
 
 pub returns-clause-compared : goal.returns-clause-compared
 returns-clause-compared g c = λ tree is layers shows graph.

@@ -5,9 +5,10 @@ use Rattle.graph_folder.specs.Tree.{Tree}
 use Rattle.graph_parts.specs.OfTree.{AreOfTree}
 use Rattle.graph_parts.specs.Shown.{Shows}
 use Rattle.graph_parts.proofs.TreeLemmas.{seen-more}
+use Rattle.graph_unchecked.specs.PartSource.{ReadsOn}
 use Rattle.graph_unchecked.specs.Unchecked.{IsComparedUnchecked}
 use Rattle.graph_unchecked.proofs.SourceLemmas.{reads_on}
-use Rattle.graph_unchecked.proofs.TrustedLemmas.{all-found, reads_after_lookup}
+use Rattle.graph_unchecked.proofs.TrustedLemmas.{all-found, reads-then}
 use Rattle.graph_unchecked.proofs.search.compared_among.Goals as goal
 
 pub compared-requires-clause-of : goal.compared-requires-clause-of
@@ -32,13 +33,21 @@ returns-in-Missing-clause-told g c = λ tree is layers shows graph.
 
 pub returns-in_err-comparison-in-Known-clause-reads : goal.returns-in_err-comparison-in-Known-clause-reads
 returns-in_err-comparison-in-Known-clause-reads g c =
-    reads_after_lookup _ _ c.args.parts.now c.find_all.new.parts c.compared.new.parts c.find_all.ensures.tree
-    c.find_all.ensures.parts c.find_all.ensures.sees c.compared.ensures.reads
+    let known = g.T.Folder.tree c.args.folder.now in
+    let old = c.args.parts.now in
+    let mid = c.find_all.new.parts in
+    let new = c.compared.new.parts in
+    reads-then known old mid new (reads_on known old mid c.find_all.ensures.parts c.find_all.ensures.sees)
+    (subst (λ (k : Option Tree). ReadsOn k mid new) c.find_all.ensures.tree c.compared.ensures.reads)
 
 pub returns-in_ok-comparison-in-Known-clause-reads : goal.returns-in_ok-comparison-in-Known-clause-reads
 returns-in_ok-comparison-in-Known-clause-reads g c =
-    reads_after_lookup _ _ c.args.parts.now c.find_all.new.parts c.compared.new.parts c.find_all.ensures.tree
-    c.find_all.ensures.parts c.find_all.ensures.sees c.compared.ensures.reads
+    let known = g.T.Folder.tree c.args.folder.now in
+    let old = c.args.parts.now in
+    let mid = c.find_all.new.parts in
+    let new = c.compared.new.parts in
+    reads-then known old mid new (reads_on known old mid c.find_all.ensures.parts c.find_all.ensures.sees)
+    (subst (λ (k : Option Tree). ReadsOn k mid new) c.find_all.ensures.tree c.compared.ensures.reads)
 
 pub returns-in_ok-comparison-in-Known-clause-told : goal.returns-in_ok-comparison-in-Known-clause-told
 returns-in_ok-comparison-in-Known-clause-told g c = λ tree is layers shows graph.

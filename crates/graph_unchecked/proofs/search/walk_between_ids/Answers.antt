@@ -5,9 +5,10 @@ use Rattle.graph_folder.specs.Tree.{Tree}
 use Rattle.graph_parts.specs.OfTree.{AreOfTree}
 use Rattle.graph_parts.specs.Shown.{Shows}
 use Rattle.graph_parts.proofs.TreeLemmas.{seen-more}
+use Rattle.graph_unchecked.specs.PartSource.{ReadsOn}
 use Rattle.graph_unchecked.specs.Unchecked.{IsWalkUnchecked}
 use Rattle.graph_unchecked.proofs.SourceLemmas.{reads_on}
-use Rattle.graph_unchecked.proofs.TrustedLemmas.{both-found, reads_after_lookup}
+use Rattle.graph_unchecked.proofs.TrustedLemmas.{both-found, reads-then}
 use Rattle.graph_unchecked.proofs.search.walk_between_ids.Goals as goal
 
 pub walk_ids-requires-clause-of : goal.walk_ids-requires-clause-of
@@ -41,13 +42,21 @@ returns-in-SecondMissing-clause-told g c = λ tree is layers shows graph.
 
 pub returns-in_err-walk-in-Known-clause-reads : goal.returns-in_err-walk-in-Known-clause-reads
 returns-in_err-walk-in-Known-clause-reads g c =
-    reads_after_lookup _ _ c.args.parts.now c.find_both.new.parts c.walk_ids.new.parts c.find_both.ensures.tree
-    c.find_both.ensures.parts c.find_both.ensures.sees c.walk_ids.ensures.reads
+    let known = g.T.Folder.tree c.args.folder.now in
+    let old = c.args.parts.now in
+    let mid = c.find_both.new.parts in
+    let new = c.walk_ids.new.parts in
+    reads-then known old mid new (reads_on known old mid c.find_both.ensures.parts c.find_both.ensures.sees)
+    (subst (λ (k : Option Tree). ReadsOn k mid new) c.find_both.ensures.tree c.walk_ids.ensures.reads)
 
 pub returns-in_ok-walk-in-Known-clause-reads : goal.returns-in_ok-walk-in-Known-clause-reads
 returns-in_ok-walk-in-Known-clause-reads g c =
-    reads_after_lookup _ _ c.args.parts.now c.find_both.new.parts c.walk_ids.new.parts c.find_both.ensures.tree
-    c.find_both.ensures.parts c.find_both.ensures.sees c.walk_ids.ensures.reads
+    let known = g.T.Folder.tree c.args.folder.now in
+    let old = c.args.parts.now in
+    let mid = c.find_both.new.parts in
+    let new = c.walk_ids.new.parts in
+    reads-then known old mid new (reads_on known old mid c.find_both.ensures.parts c.find_both.ensures.sees)
+    (subst (λ (k : Option Tree). ReadsOn k mid new) c.find_both.ensures.tree c.walk_ids.ensures.reads)
 
 pub returns-in_ok-walk-in-Known-clause-told : goal.returns-in_ok-walk-in-Known-clause-told
 returns-in_ok-walk-in-Known-clause-told g c = λ tree is layers shows graph.

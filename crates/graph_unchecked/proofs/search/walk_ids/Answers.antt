@@ -1,20 +1,29 @@
 -- The ids are read of the same layers after the search.
 use Rattle.std.proofs.Common.{Option, sym, subst, ◌∙◌}
 use Rattle.graph_folder.specs.Tree.{Tree}
-use Rattle.graph_parts.specs.Shown.{Shows}
+use Rattle.graph_parts.specs.Shown.{SeesMore, Shows}
 use Rattle.graph_unchecked.proofs.SearchLemmas.{no-walk, shows-after, walk-of-ids}
-use Rattle.graph_unchecked.proofs.TrustedLemmas.{ids_after_search}
+use Rattle.graph_unchecked.proofs.SourceLemmas.{reads_on}
+use Rattle.graph_unchecked.proofs.TrustedLemmas.{reads-then}
 use Rattle.graph_unchecked.proofs.search.walk_ids.Goals as goal
 
 pub returns-in_err-ids-in-Some-clause-reads : goal.returns-in_err-ids-in-Some-clause-reads
 returns-in_err-ids-in-Some-clause-reads g c =
-    ids_after_search _ _ c.args.parts.now c.walk_between.new.parts c.read_ids.new.parts c.walk_between.ensures.tree
-    c.walk_between.ensures.reads c.read_ids.ensures.parts c.read_ids.ensures.sees
+    let known = g.T.Folder.tree c.args.folder.now in
+    let mid = c.walk_between.new.parts in
+    let new = c.read_ids.new.parts in
+    reads-then known c.args.parts.now mid new c.walk_between.ensures.reads
+    (reads_on known mid new c.read_ids.ensures.parts
+    (subst (λ (k : Option Tree). SeesMore k mid new) c.walk_between.ensures.tree c.read_ids.ensures.sees))
 
 pub returns-in_ok-ids-in-Some-clause-reads : goal.returns-in_ok-ids-in-Some-clause-reads
 returns-in_ok-ids-in-Some-clause-reads g c =
-    ids_after_search _ _ c.args.parts.now c.walk_between.new.parts c.read_ids.new.parts c.walk_between.ensures.tree
-    c.walk_between.ensures.reads c.read_ids.ensures.parts c.read_ids.ensures.sees
+    let known = g.T.Folder.tree c.args.folder.now in
+    let mid = c.walk_between.new.parts in
+    let new = c.read_ids.new.parts in
+    reads-then known c.args.parts.now mid new c.walk_between.ensures.reads
+    (reads_on known mid new c.read_ids.ensures.parts
+    (subst (λ (k : Option Tree). SeesMore k mid new) c.walk_between.ensures.tree c.read_ids.ensures.sees))
 
 pub returns-in_ok-ids-in-Some-clause-walk : goal.returns-in_ok-ids-in-Some-clause-walk
 returns-in_ok-ids-in-Some-clause-walk g c = λ tree is layers shows graph.
