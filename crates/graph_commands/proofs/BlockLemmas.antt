@@ -1,6 +1,6 @@
 -- Digits in bytes, and bytes in a block.
 use Rattle.std.proofs.Common.{◌≡◌, ℕ, ◌+◌, Bool, true, false, List, [], ◌∷◌, ◌++◌, length, take, drop, Result, Ok, Err, refl, ap}
-use Rattle.std.proofs.Common.{◌≤◌, sym, subst, ◌∙◌, append_assoc, append-nil}
+use Rattle.std.proofs.Common.{sym, subst, ◌∙◌, append_assoc, append-nil}
 use Rattle.graph_commands.specs.Block.{with_block}
 use Rattle.std.specs.Prelude.{Option, Some, None, OnOk, if◌then◌else◌}
 use Rattle.std.specs.List.{join_by}
@@ -8,7 +8,6 @@ use Rattle.std.proofs.lemmas.List.Concat.{flat_map-append}
 use Rattle.std.specs.Io.KnownBytes.{Appends}
 use Rattle.std.proofs.KnownBytes.{Appends-trans}
 use lib.Seq.{take-add, take-append_seam}
-use Rattle.std.proofs.lemmas.List.{take_all, take-append-le}
 
 -- the front of bytes into which a text was written after a place
 pub take_written : (old new text rest : List ℕ) (at end : ℕ) → at + length text ≡ end
@@ -18,12 +17,6 @@ take_written old new text rest at end sized written before =
     ∙ ap (λ l. l ++ take (length text) (drop at new)) before
     ∙ ap (λ l. take at old ++ take (length text) l) written
     ∙ ap (λ l. take at old ++ l) (take-append_seam text rest)
-
--- the front of bytes that were filled up
-pub take_filled : (len filled : ℕ) (old zeros : List ℕ) → len ≤ length old → length old ≤ filled
-    → take len (take filled old ++ zeros) ≡ take len old
-take_filled len filled old zeros within more =
-    ap (λ bytes. take len (bytes ++ zeros)) (take_all filled old more) ∙ take-append-le len old zeros within
 
 -- two texts that were added, the second perhaps, one after the other
 pub appends_last : {T E : Type 0} (result : Result T E) (a b c : Option (List ℕ)) (xs ys all : List ℕ)

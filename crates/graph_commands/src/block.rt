@@ -1,7 +1,7 @@
-//! Bytes on their way to a writer.
+//! Bytes on their way to a writer, in blocks.
 
-ghost use Rattle.std.specs.Prelude.{◌≡◌, ◌+◌, ◌≤◌, ◌<◌, [], ◌∷◌, length, min, take, decimal};
-ghost use Rattle.std.specs.Prelude.{IfOk, OnOk, vec_capacity};
+ghost use Rattle.std.specs.Prelude.{◌≡◌, ◌+◌, ◌≤◌, List, ℕ, [], ◌∷◌, length, take, decimal};
+ghost use Rattle.std.specs.Prelude.{IfOk, OnOk};
 ghost use Rattle.std.specs.Io.KnownBytes.{Appends, Keeps};
 ghost use Rattle.hex.specs.Hex.{encode_lower};
 ghost use Rattle.gix_hash_core.specs.Oid.{oid_bytes};
@@ -21,24 +21,19 @@ const ROOM: usize = 64 * 1024;
 const MOST_DIGITS: usize = 20;
 
 /// Bytes that a writer has not been given yet. Where they would not fit, those before are written
-/// first. Nothing is allocated once the block is there, and at most twice as much of its room is
-/// touched as they needed.
+/// first. Nothing is allocated once the block is there.
 #[derive(Drop)]
 pub struct Block {
-    // so much of its room as was needed so far
     bytes: Vec<u8>,
     len: usize,
 }
 
 impl Model for Block {
-    ghost use Rattle.std.specs.Prelude.{◌≤◌, List, ℕ, length, take, vec_capacity};
-
     ghost Value = { List ℕ };
 
     ghost view = { λ block. take block.len block.bytes.items };
 
-    ghost invariant = { λ block. (block.len ≤ length block.bytes.items)
-        × (length block.bytes.items ≤ 65536) × (65536 ≤ vec_capacity block.bytes) };
+    ghost invariant = { λ block. (block.len ≤ 65536) × (length block.bytes.items ≡ 65536) };
 }
 
 impl Block {
@@ -47,7 +42,7 @@ impl Block {
         ensures { IfOk result (λ block. block ≡ []) }
     {
         Ok(Block {
-            bytes: Vec::with_capacity(alloc, ROOM)?,
+            bytes: vec![in alloc; 0; ROOM]?,
             len: 0,
         })
     }
@@ -63,8 +58,8 @@ impl Block {
             writer.write_all(text)?;
             return Ok(());
         }
-        let end = make_room(&mut self.bytes, self.len, writer, text.len())?;
-        self.len = put_text(&mut self.bytes, end, text);
+        self.make_room(writer, text.len())?;
+        self.len = put_text(&mut self.bytes, self.len, text);
         Ok(())
     }
 
@@ -73,9 +68,9 @@ impl Block {
         ensures { OnOk result (Appends (with_block (W.contents writer.old) self.old)
             (with_block (W.contents writer.new) self.new) (byte ∷ [])) }
     {
-        let end = make_room(&mut self.bytes, self.len, writer, 1)?;
-        self.bytes[end] = byte;
-        self.len = end + 1;
+        self.make_room(writer, 1)?;
+        self.bytes[self.len] = byte;
+        self.len += 1;
         Ok(())
     }
 
@@ -84,8 +79,8 @@ impl Block {
         ensures { OnOk result (Appends (with_block (W.contents writer.old) self.old)
             (with_block (W.contents writer.new) self.new) (decimal number)) }
     {
-        let end = make_room(&mut self.bytes, self.len, writer, MOST_DIGITS)?;
-        self.len = put_decimal(&mut self.bytes, end, number);
+        self.make_room(writer, MOST_DIGITS)?;
+        self.len = put_decimal(&mut self.bytes, self.len, number);
         Ok(())
     }
 
@@ -95,8 +90,8 @@ impl Block {
             (with_block (W.contents writer.new) self.new) (encode_lower (oid_bytes id.entry))) }
     {
         let id = id.as_bytes();
-        let end = make_room(&mut self.bytes, self.len, writer, 2 * id.len())?;
-        self.len = put_hex(&mut self.bytes, end, id);
+        self.make_room(writer, 2 * id.len())?;
+        self.len = put_hex(&mut self.bytes, self.len, id);
         Ok(())
     }
 
@@ -110,51 +105,17 @@ impl Block {
         self.len = 0;
         Ok(())
     }
-}
 
-/// Makes room for `count` more bytes behind the first `len`, and answers where these end then. They
-/// are written first where they leave no such room. `WriteFailed` comes where the writer fails.
-fn make_room<W: Write>(
-    bytes: &mut Vec<u8>,
-    len: usize,
-    writer: &mut W,
-    count: usize,
-) -> Result<usize, WriteFailed>
-    requires within { (len ≤ length bytes.old.items) × (count ≤ 65536) }
-    requires room { (length bytes.old.items ≤ 65536) × (65536 ≤ vec_capacity bytes.old) }
-    ensures kept { IfOk result (λ end.
-        Keeps (with_block (W.contents writer.old) (take len bytes.old.items))
-        (with_block (W.contents writer.new) (take end bytes.new.items))) }
-    ensures free { IfOk result (λ end. end + count ≤ length bytes.new.items) }
-    ensures longer { length bytes.old.items ≤ length bytes.new.items }
-    ensures room { (length bytes.new.items ≤ 65536) × (65536 ≤ vec_capacity bytes.new) }
-{
-    if count <= bytes.len() - len {
-        return Ok(len);
+    /// Writes what the block has if there is no room for so many more bytes.
+    fn make_room<W: Write>(&mut self, writer: &mut W, count: usize) -> Result<(), WriteFailed>
+        requires { count ≤ 65536 }
+        ensures kept { OnOk result (Keeps (with_block (W.contents writer.old) self.old)
+            (with_block (W.contents writer.new) self.new)) }
+        ensures room { OnOk result (length self.new + count ≤ 65536) }
+    {
+        if count > ROOM - self.len {
+            self.write_out(writer)?;
+        }
+        Ok(())
     }
-    fill(bytes, len, count);
-    if count <= bytes.len() - len {
-        return Ok(len);
-    }
-    writer.write_all(&bytes[..len])?;
-    Ok(0)
-}
-
-/// Fills the room with zeros, twice as far as `count` more bytes behind the first `len` reach, or
-/// to its end.
-#[cold]
-#[inline(never)]
-#[tactic(auto, using(crate::proofs::BlockLemmas::take_filled))]
-fn fill(bytes: &mut Vec<u8>, len: usize, count: usize)
-    requires within { (len ≤ length bytes.old.items) × (count ≤ 65536) }
-    requires lacking { length bytes.old.items < len + count }
-    requires room { (length bytes.old.items ≤ 65536) × (65536 ≤ vec_capacity bytes.old) }
-    ensures kept { take len bytes.new.items ≡ take len bytes.old.items }
-    ensures filled { min (len + count) 65536 ≤ length bytes.new.items }
-    ensures longer { length bytes.old.items ≤ length bytes.new.items }
-    ensures room { (length bytes.new.items ≤ 65536) × (65536 ≤ vec_capacity bytes.new) }
-{
-    let end = len + count;
-    let filled = if end <= ROOM / 2 { 2 * end } else { ROOM };
-    bytes.resize(filled, 0).unwrap();
 }
