@@ -1,2 +1,3 @@
 mod DateRoom
 mod HandedIn
+pub mod ParentRoom

@@ -1,3 +1,4 @@
 pub mod HandedIn
+pub mod SaidCommits
 pub mod ToldDates
 pub mod ToldWrite

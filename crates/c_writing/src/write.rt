@@ -1,22 +1,23 @@
 //! Writing a layer.
 
-ghost use Rattle.std.specs.Prelude.{◌≡◌, ◌≢◌, ◌↔◌, [], drop, false, IfErr, IfOk, IsSomeAnd};
+ghost use Rattle.std.specs.Prelude.{◌≡◌, ◌≢◌, ◌↔◌, [], All, drop, false, IfErr, IfOk, IsSomeAnd};
 ghost use Rattle.std.specs.Prelude.{is_some, length, unwrap_or};
 ghost use Rattle.graph_writer.specs.NewCommits.{layers_of_below};
 ghost use Rattle.c_opening.specs.Answers.{written};
 ghost use Rattle.c_opening.specs.Codes.{no_ids, not_checked};
 ghost use Rattle.c_writing.specs.HandedIn.{HaveIds, IsFirstWithoutIds};
+ghost use Rattle.c_writing.specs.SaidCommits.{HasFewParents};
 ghost use Rattle.c_writing.specs.ToldWrite.{IsFileFrom, MayRefuseHanded, open_layers};
 ghost use Rattle.c_writing.specs.ToldWrite.{told_dates_below, told_write, write_code};
 
 use crate::dates;
-use crate::new_commits::{CgNewCommit, commits_of, first_without_ids};
+use crate::new_commits::{CgNewCommit, first_without_ids};
 use c_opening::codes::{NO_IDS, NOT_CHECKED, OUT_OF_MEMORY};
 use c_opening::paths::write_bytes;
 use c_opening::{CgBytes, CgBytesOwner, CgGraph, Kept};
 use graph_chunks::dates::DatesError;
 use graph_history::Checked;
-use graph_writer::{WriteError, write_layer};
+use graph_writer::{WriteError, write_layer_of};
 use std::alloc::Global;
 
 /// Why no layer was written.
@@ -101,17 +102,15 @@ fn new_file(
     below: Option<&Checked<'_>>,
     handed: &[CgNewCommit<'_>],
 ) -> Result<Box<Kept>, CgWriteError>
-    requires { HaveIds handed.now }
+    requires ids { HaveIds handed.now }
+    requires few { All HasFewParents handed.now }
     ensures file { IfOk result (λ bytes.
         IsFileFrom (layers_of_below below.entry) handed.now bytes.value) }
     ensures refused { IfErr result (MayRefuseHanded (layers_of_below below.entry) handed.now) }
     ensures code { IfErr result (λ e. e.code ≢ 0) }
     ensures other { IfErr result (λ e. (e.code ≢ not_checked) × (e.code ≢ no_ids)) }
 {
-    let Ok(commits) = commits_of(alloc, handed) else {
-        return Err(told(WriteError::OutOfMemory));
-    };
-    match write_layer(alloc, below, &commits) {
+    match write_layer_of(alloc, below, handed) {
         Ok(bytes) => boxed(alloc, bytes),
         Err(error) => Err(told(error)),
     }
