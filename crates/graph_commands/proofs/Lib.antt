@@ -1,7 +1,7 @@
 pub mod PlaceLemmas
 pub mod ListAnswers
 pub mod Appended
-pub mod BlockLemmas
+pub mod BufferLemmas
 pub mod AncestorAnswers
 pub mod ToldLemmas
 pub mod CheckAnswers

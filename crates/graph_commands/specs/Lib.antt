@@ -2,7 +2,7 @@ pub mod Text
 pub mod InputErrorNumbers
 pub mod RefusalLines
 pub mod WrittenAnswer
-pub mod Block
+pub mod Buffer
 pub mod Listing
 pub mod PositionLines
 pub mod List

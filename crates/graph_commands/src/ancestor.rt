@@ -8,11 +8,11 @@ ghost use Rattle.graph_commands.specs.Ancestor.{MayAnswerIn, MayRelate, ancestor
 ghost use Rattle.graph_commands.specs.Ancestor.{MayHaveWalk, ancestor_status, step_text};
 ghost use Rattle.graph_commands.specs.Ancestor.{visits_line};
 ghost use Rattle.graph_commands.specs.WrittenAnswer.{IsToldOf, WritesAnswer};
-ghost use Rattle.graph_commands.specs.Block.{with_block};
+ghost use Rattle.graph_commands.specs.Buffer.{with_buffer};
 ghost use Rattle.graph_commands.specs.OpenerAnswer.{MayOpen};
 ghost use Rattle.graph_commands.specs.Text.{newline};
 
-use crate::block::Block;
+use crate::buffer::Buffer;
 use crate::line::{WriteFailed, write_line};
 use crate::refusal::Refusal;
 use crate::run::refuse;
@@ -126,7 +126,7 @@ fn tell<W: Write>(alloc: Global, writer: &mut W, ancestry: &Ancestry) -> Result<
 }
 
 /// Writes the line of the walk and how many commits were visited, and answers the exit status. A
-/// walk goes through a block, and where there is no memory for one, that is told in its place.
+/// walk goes through a buffer, and where there is no memory for one, that is told in its place.
 fn tell_reached<W: Write>(
     alloc: Global,
     writer: &mut W,
@@ -137,9 +137,9 @@ fn tell_reached<W: Write>(
         (W.contents writer.old) (W.contents writer.new)) }
 {
     match &reached.walk {
-        Some(walk) => match Block::new(alloc) {
-            Ok(mut block) => {
-                write_walk(&mut block, writer, walk)?;
+        Some(walk) => match Buffer::new(alloc) {
+            Ok(mut buffer) => {
+                write_walk(&mut buffer, writer, walk)?;
                 write_visits(writer, reached.visits)?;
                 Ok(Status::Yes as u8)
             }
@@ -163,19 +163,19 @@ fn write_visits<W: Write>(writer: &mut W, visits: u32) -> Result<(), WriteFailed
 
 /// Writes the positions of a walk.
 fn write_walk<W: Write>(
-    block: &mut Block,
+    buffer: &mut Buffer,
     writer: &mut W,
     walk: &[Position],
 ) -> Result<(), WriteFailed>
-    requires { block.old ≡ [] }
+    requires { buffer.old ≡ [] }
     ensures { OnOk result (Appends (W.contents writer.old) (W.contents writer.new)
         (codes "walk" ++ flat_map step_text walk.now ++ newline)) }
 {
-    block.push_text(writer, "walk")?;
+    buffer.push_text(writer, "walk")?;
     for Position(position) in walk {
-        block.push_byte(writer, b' ')?;
-        block.push_decimal(writer, *position as u64)?;
+        buffer.push_byte(writer, b' ')?;
+        buffer.push_decimal(writer, *position as u64)?;
     }
-    block.push_byte(writer, b'\n')?;
-    block.write_out(writer)
+    buffer.push_byte(writer, b'\n')?;
+    buffer.write_out(writer)
 }

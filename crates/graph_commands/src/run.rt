@@ -13,7 +13,7 @@ ghost use Rattle.graph_commands.specs.CheckAnswers.{MayVerify, MayVerifyDistinct
 ghost use Rattle.graph_commands.specs.CheckAnswers.{verify_text, verify_status};
 
 pub use crate::ancestor::{Ancestry, run_ancestor};
-use crate::block::Block;
+use crate::buffer::Buffer;
 use crate::find::find_at;
 pub use crate::line::WriteFailed;
 use crate::line::write_line;
@@ -43,28 +43,28 @@ pub fn run_list<R: Read, W: Write>(
         (W.contents writer.old) (W.contents writer.new) status)) }
 {
     match prepare(alloc, reader) {
-        Ok((layer, mut block)) => {
-            write_listing(&mut block, writer, &layer)?;
+        Ok((layer, mut buffer)) => {
+            write_listing(&mut buffer, writer, &layer)?;
             Ok(Status::Yes as u8)
         }
         Err(refusal) => refuse(writer, &refusal),
     }
 }
 
-/// The layer that the reader gives, and a block to write its listing with. All that a listing needs
-/// memory for is there before the first write, and but for the layer before the first read.
-fn prepare<R: Read>(alloc: Global, reader: &mut R) -> Result<(File, Block), Refusal>
+/// The layer that the reader gives, and a buffer to write its listing with. All that a listing
+/// needs memory for is there before the first write, and but for the layer before the first read.
+fn prepare<R: Read>(alloc: Global, reader: &mut R) -> Result<(File, Buffer), Refusal>
     ensures layer { IfOk result (λ prepared. IfSome (R.remaining reader.old) (λ input.
         MayList input (Ok prepared.0))) }
-    ensures block { IfOk result (λ prepared. prepared.1 ≡ []) }
+    ensures buffer { IfOk result (λ prepared. prepared.1 ≡ []) }
     ensures refused { IfErr result (λ refusal. IfSome (R.remaining reader.old) (λ input.
         MayList input (Err refusal))) }
 {
     let path = String::from_str(alloc, "-").map_err(|_| ReadError::OutOfMemory)?;
-    let block = Block::new(alloc).map_err(|_| ReadError::OutOfMemory)?;
+    let buffer = Buffer::new(alloc).map_err(|_| ReadError::OutOfMemory)?;
     let input = read_all(alloc, reader)?;
     let layer = File::new(alloc, input, path)?;
-    Ok((layer, block))
+    Ok((layer, buffer))
 }
 
 /// Checks the graph that the path opens, and writes the statistics of its commits, or one line that

@@ -1,5 +1,5 @@
 //! The commands `merge-base` and `merge-base-ids`, and the lines that they write. Writing them
-//! allocates nothing but a block for the lines of bases.
+//! allocates nothing but a buffer for the lines of bases.
 
 ghost use Rattle.std.specs.Prelude.{◌≡◌, ◌<◌, [], ◌∷◌, All, IfErr, IfOk, IfSome, IsNone};
 ghost use Rattle.std.specs.Prelude.{List, Ok, OnOk, length, map, string_bytes};
@@ -11,7 +11,7 @@ ghost use Rattle.gix_commitgraph.specs.Graph.{total};
 ghost use Rattle.commit_search.specs.Positions.{numbers_of};
 ghost use Rattle.graph_commands.specs.Ancestor.{IsThere};
 ghost use Rattle.graph_commands.specs.WrittenAnswer.{IsToldOf, WritesAnswer};
-ghost use Rattle.graph_commands.specs.Block.{with_block};
+ghost use Rattle.graph_commands.specs.Buffer.{with_buffer};
 ghost use Rattle.graph_commands.specs.OpenerAnswer.{MayOpen};
 ghost use Rattle.history_commands.specs.MergeBases.{AreBasesWithin, IsIdAt, IsFirstUnknown};
 ghost use Rattle.history_commands.specs.MergeBases.{MayBeAskedOfAll, MayCompare, MayFindOfAll};
@@ -25,7 +25,7 @@ use crate::opening::open_checked;
 use crate::walk::{tell_none, write_ids};
 use gix_commitgraph::Position;
 use gix_hash_core::{IdError, ObjectId, oid};
-use graph_commands::block::Block;
+use graph_commands::buffer::Buffer;
 use graph_commands::line::{WriteFailed, write_line};
 use graph_commands::refusal::Refusal;
 use graph_commands::run::refuse;
@@ -245,7 +245,7 @@ pub fn find_all(
     Ok(found)
 }
 
-/// Writes what is found, and answers the exit status. The lines of bases go through a block, and
+/// Writes what is found, and answers the exit status. The lines of bases go through a buffer, and
 /// where there is no memory for one, that is told in their place.
 fn tell<W: Write>(
     alloc: Global,
@@ -265,9 +265,9 @@ fn tell<W: Write>(
             write_counts(writer, comparison)?;
             Ok(Status::No as u8)
         }
-        Compared::Known(comparison) => match Block::new(alloc) {
-            Ok(mut block) => {
-                write_bases(&mut block, writer, graph, &comparison.bases.positions)?;
+        Compared::Known(comparison) => match Buffer::new(alloc) {
+            Ok(mut buffer) => {
+                write_bases(&mut buffer, writer, graph, &comparison.bases.positions)?;
                 write_counts(writer, comparison)?;
                 Ok(Status::Yes as u8)
             }
@@ -277,7 +277,7 @@ fn tell<W: Write>(
 }
 
 /// Writes what is found, of the bases their ids alone, and answers the exit status. The ids go
-/// through a block, and where there is no memory for one, that is told in their place.
+/// through a buffer, and where there is no memory for one, that is told in their place.
 fn tell_ids<W: Write>(
     alloc: Global,
     writer: &mut W,
@@ -294,9 +294,9 @@ fn tell_ids<W: Write>(
         Compared::Known(comparison) if comparison.bases.positions.is_empty() => tell_none(
             writer, "none",
         ),
-        Compared::Known(comparison) => match Block::new(alloc) {
-            Ok(mut block) => {
-                write_ids(&mut block, writer, graph, &comparison.bases.positions)?;
+        Compared::Known(comparison) => match Buffer::new(alloc) {
+            Ok(mut buffer) => {
+                write_ids(&mut buffer, writer, graph, &comparison.bases.positions)?;
                 Ok(Status::Yes as u8)
             }
             Err(_) => refuse(writer, &Refusal::Walk),
@@ -328,49 +328,49 @@ pub fn write_counts<W: Write>(writer: &mut W, comparison: &Comparison) -> Result
 
 /// Writes the lines of bases.
 fn write_bases<W: Write>(
-    block: &mut Block,
+    buffer: &mut Buffer,
     writer: &mut W,
     graph: &Checked<'_>,
     bases: &[Position],
 ) -> Result<(), WriteFailed>
-    requires empty { block.old ≡ [] }
+    requires empty { buffer.old ≡ [] }
     requires within { All (λ base. base.0 < total graph.now.layers) bases.now }
     ensures { OnOk result (Appends (W.contents writer.old) (W.contents writer.new)
         (flat_map (merge_base_line graph.now.layers) bases.now)) }
 {
     for base in bases {
-        push_base(block, writer, graph, *base)?;
+        push_base(buffer, writer, graph, *base)?;
     }
-    block.write_out(writer)
+    buffer.write_out(writer)
 }
 
 /// Adds the line of a base of a graph that was checked. `WriteFailed` comes where the writer fails.
 pub fn push_base<W: Write>(
-    block: &mut Block,
+    buffer: &mut Buffer,
     writer: &mut W,
     graph: &Checked<'_>,
     base: Position,
 ) -> Result<(), WriteFailed>
     requires { base.0 < total graph.now.layers }
-    ensures { OnOk result (Appends (with_block (W.contents writer.old) block.old)
-        (with_block (W.contents writer.new) block.new) (merge_base_line graph.now.layers base)) }
+    ensures { OnOk result (Appends (with_buffer (W.contents writer.old) buffer.old)
+        (with_buffer (W.contents writer.new) buffer.new) (merge_base_line graph.now.layers base)) }
 {
-    push_line_of_base(block, writer, base, graph.id(base))
+    push_line_of_base(buffer, writer, base, graph.id(base))
 }
 
 /// Adds the line of a base: its position and its id. `WriteFailed` comes where the writer fails.
 pub fn push_line_of_base<W: Write>(
-    block: &mut Block,
+    buffer: &mut Buffer,
     writer: &mut W,
     base: Position,
     id: oid<'_>,
 ) -> Result<(), WriteFailed>
-    ensures { OnOk result (Appends (with_block (W.contents writer.old) block.old)
-        (with_block (W.contents writer.new) block.new) (line_of_base base (oid_bytes id.entry))) }
+    ensures { OnOk result (Appends (with_buffer (W.contents writer.old) buffer.old)
+        (with_buffer (W.contents writer.new) buffer.new) (line_of_base base (oid_bytes id.entry))) }
 {
-    block.push_text(writer, "base ")?;
-    block.push_decimal(writer, base.0 as u64)?;
-    block.push_byte(writer, b' ')?;
-    block.push_id(writer, id)?;
-    block.push_byte(writer, b'\n')
+    buffer.push_text(writer, "base ")?;
+    buffer.push_decimal(writer, base.0 as u64)?;
+    buffer.push_byte(writer, b' ')?;
+    buffer.push_id(writer, id)?;
+    buffer.push_byte(writer, b'\n')
 }

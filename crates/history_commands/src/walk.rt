@@ -8,7 +8,7 @@ ghost use Rattle.gix_commitgraph.specs.Graph.{IsGraph, total};
 ghost use Rattle.graph_commands.specs.Ancestor.{IsThere};
 ghost use Rattle.graph_commands.specs.Text.{◌⧺◌, newline};
 ghost use Rattle.graph_commands.specs.WrittenAnswer.{IsToldOf, WritesAnswer};
-ghost use Rattle.graph_commands.specs.Block.{with_block};
+ghost use Rattle.graph_commands.specs.Buffer.{with_buffer};
 ghost use Rattle.graph_commands.specs.OpenerAnswer.{MayOpen};
 ghost use Rattle.history_commands.specs.Question.{MayAnswer, MayBeRefused, MayFindBoth};
 ghost use Rattle.history_commands.specs.Walk.{IsWalkOfIds, AreInGraph, with_ids};
@@ -17,7 +17,7 @@ ghost use Rattle.history_commands.specs.Walk.{MayBeWalk, id_line, id_in, walk_te
 use crate::question::{Answer, Question, ask};
 use gix_commitgraph::Position;
 use gix_hash_core::oid;
-use graph_commands::block::Block;
+use graph_commands::buffer::Buffer;
 use graph_commands::line::{WriteFailed, write_line};
 use graph_commands::refusal::Refusal;
 use graph_commands::run::refuse;
@@ -134,7 +134,7 @@ fn tell<W: Write>(
 }
 
 /// Writes the ids on a walk, or that there is none, and answers the exit status. A walk goes
-/// through a block, and where there is no memory for one, that is told in its place.
+/// through a buffer, and where there is no memory for one, that is told in its place.
 fn tell_reached<W: Write>(
     alloc: Global,
     writer: &mut W,
@@ -147,9 +147,9 @@ fn tell_reached<W: Write>(
         (W.contents writer.old) (W.contents writer.new)) }
 {
     match reached {
-        Some(walk) => match Block::new(alloc) {
-            Ok(mut block) => {
-                write_ids(&mut block, writer, graph, walk)?;
+        Some(walk) => match Buffer::new(alloc) {
+            Ok(mut buffer) => {
+                write_ids(&mut buffer, writer, graph, walk)?;
                 Ok(Status::Yes as u8)
             }
             Err(_) => refuse(writer, &Refusal::Walk),
@@ -170,19 +170,19 @@ pub fn tell_none<W: Write>(writer: &mut W, line: &str) -> Result<u8, WriteFailed
 
 /// Writes the ids at these positions, a line for each.
 pub(crate) fn write_ids<W: Write>(
-    block: &mut Block,
+    buffer: &mut Buffer,
     writer: &mut W,
     graph: &Checked<'_>,
     walk: &[Position],
 ) -> Result<(), WriteFailed>
-    requires empty { block.old ≡ [] }
+    requires empty { buffer.old ≡ [] }
     requires within { All (λ pos. pos.0 < total graph.now.layers) walk.now }
     ensures { OnOk result (Appends (W.contents writer.old) (W.contents writer.new)
         (flat_map (λ pos. id_line (id_in graph.now.layers pos.0)) walk.now)) }
 {
     for pos in walk {
-        block.push_id(writer, graph.id(*pos))?;
-        block.push_byte(writer, b'\n')?;
+        buffer.push_id(writer, graph.id(*pos))?;
+        buffer.push_byte(writer, b'\n')?;
     }
-    block.write_out(writer)
+    buffer.write_out(writer)
 }

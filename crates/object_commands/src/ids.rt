@@ -13,7 +13,7 @@ use crate::range::PositionRange;
 use crate::refusal::ObjectsRefusal;
 use gix_commitgraph::opening::{OpenError, open_in};
 use gix_commitgraph::{Graph, Position};
-use graph_commands::block::Block;
+use graph_commands::buffer::Buffer;
 use graph_commands::line::{WriteFailed, write_line};
 use graph_commands::status::Status;
 use graph_folder::folder::Folder;
@@ -40,8 +40,8 @@ pub fn run_ids<T: Folder, W: Write>(
     ensures tree { T.tree folder.new ≡ T.tree folder.old }
 {
     match prepare(alloc, folder, path, range) {
-        Ok((graph, range, mut block)) => {
-            write_ids(&mut block, writer, &graph, range)?;
+        Ok((graph, range, mut buffer)) => {
+            write_ids(&mut buffer, writer, &graph, range)?;
             Ok(Status::Yes as u8)
         }
         Err(refusal) => {
@@ -51,47 +51,47 @@ pub fn run_ids<T: Folder, W: Write>(
     }
 }
 
-/// The graph that the path opens, the positions of it that are asked for, and a block to write
-/// their ids with. The block is there before anything is opened.
+/// The graph that the path opens, the positions of it that are asked for, and a buffer to write
+/// their ids with. The buffer is there before anything is opened.
 fn prepare<T: Folder>(
     alloc: Global,
     folder: &mut T,
     path: &str,
     range: Option<PositionRange>,
-) -> Result<(Graph, PositionRange, Block), ObjectsRefusal>
+) -> Result<(Graph, PositionRange, Buffer), ObjectsRefusal>
     ensures opened { IfOk result (λ prepared.
         MayOpen (T.tree folder.old) path.now (T.failure_count folder.old)
         (T.failure_count folder.new) (Ok prepared.0)) }
     ensures range { IfOk result (λ prepared. (prepared.1 ≡ asked_range prepared.0 range)
         × IsRangeOf prepared.0 prepared.1) }
-    ensures block { IfOk result (λ prepared. prepared.2 ≡ []) }
+    ensures buffer { IfOk result (λ prepared. prepared.2 ≡ []) }
     ensures refused { IfErr result (λ refusal. MayListIds range
         (MayOpen (T.tree folder.old) path.now (T.failure_count folder.old)
         (T.failure_count folder.new))
         (Err refusal)) }
     ensures tree { T.tree folder.new ≡ T.tree folder.old }
 {
-    let block = Block::new(alloc).map_err(|_| OpenError::OutOfMemory)?;
+    let buffer = Buffer::new(alloc).map_err(|_| OpenError::OutOfMemory)?;
     let graph = open_in(alloc, folder, path)?;
     let range = PositionRange::of_graph(&graph, range)?;
-    Ok((graph, range, block))
+    Ok((graph, range, buffer))
 }
 
 /// Writes the ids at the positions of a range, a line for each.
 fn write_ids<W: Write>(
-    block: &mut Block,
+    buffer: &mut Buffer,
     writer: &mut W,
     graph: &Graph,
     range: PositionRange,
 ) -> Result<(), WriteFailed>
-    requires empty { block.old ≡ [] }
+    requires empty { buffer.old ≡ [] }
     requires within { IsRangeOf graph.now range }
     ensures { OnOk result (Appends (W.contents writer.old) (W.contents writer.new)
         (flat_map line_of_id (ids_in_range graph.now range))) }
 {
     for number in range.from..range.to {
-        block.push_id(writer, graph.id_at(Position(number)))?;
-        block.push_byte(writer, b'\n')?;
+        buffer.push_id(writer, graph.id_at(Position(number)))?;
+        buffer.push_byte(writer, b'\n')?;
     }
-    block.write_out(writer)
+    buffer.write_out(writer)
 }

@@ -11,7 +11,7 @@ use Rattle.std.specs.Prelude.{Bool, true, Result, Ok, Err, IfOk, OnOk, ◌≢◌
 use Rattle.graph_folder.specs.declared.folder.ReadError.{ReadError}
 use Rattle.graph_folder.specs.declared.folder.ReadError.TheVariants.{NotOpened}
 use Rattle.graph_format.specs.Layer.{Layer}
-use Rattle.graph_commands.specs.Block.{with_block}
+use Rattle.graph_commands.specs.Buffer.{with_buffer}
 use Rattle.graph_commands.specs.Text.{newline}
 use Rattle.question_commands.specs.Asking.{AreTurns, MayAsk, MayTurn, Reloads, Session, Standing}
 use Rattle.question_commands.specs.Asking.{Turn, all_checked, commits_checked, session_text, turn_text}
@@ -21,7 +21,7 @@ use Rattle.question_commands.specs.declared.asking.Asked.{Asked}
 use Rattle.question_commands.specs.InputLines.{HasNoLine, TakesLine}
 use Rattle.question_commands.specs.ReadLines.{AreLinesOf, HasRead}
 use Rattle.question_commands.proofs.ReadLemmas.{lines_ended, lines_failed, reads_line, reads_more, reads_none}
-use Rattle.question_commands.proofs.BlockLemmas.{with_nothing}
+use Rattle.question_commands.proofs.BufferLemmas.{with_nothing}
 use Rattle.question_commands.specs.Proceeding.{Proceeds}
 use Rattle.question_commands.specs.AnsweredLines.{AnswersOver, MayBeTold, Told, told_text}
 use Rattle.question_commands.specs.Questions.{Asks}
@@ -223,14 +223,15 @@ asks_ended (Err error) MayOpen before opened after input unread a b c d layers t
     tt
 
 -- an answer and an empty line were written, if they were
-pub finishes : {E : Type 0} (result : Result Bool E) (layers : List Layer) (line text block : List ℕ)
-    (old middle new : Option (List ℕ)) → MayBeTold layers line text → block ≡ [] → Appends (with_block old block) middle text
+pub finishes : {E : Type 0} (result : Result Bool E) (layers : List Layer) (line text buffer : List ℕ)
+    (old middle new : Option (List ℕ)) → MayBeTold layers line text → buffer ≡ [] → Appends (with_buffer old buffer) middle text
     → OnOk result (Appends middle new newline)
     → IfOk result (λ (told : Bool). told ≡ true
     → (text : List ℕ) × MayBeTold layers line text × Appends old new (text ++ newline))
-finishes (Ok told) layers line text block old middle new may none added written = λ is.
+finishes (Ok told) layers line text buffer old middle new may none added written = λ is.
     let begun : Appends old middle text =
-    subst (λ (front : Option (List ℕ)). Appends front middle text) (ap (λ (b : List ℕ). with_block old b) none ∙ with_nothing old)
+    subst (λ (front : Option (List ℕ)). Appends front middle text)
+    (ap (λ (b : List ℕ). with_buffer old b) none ∙ with_nothing old)
     added in
     (text, may, Appends-trans old middle new text newline begun written)
-finishes (Err failed) layers line text block old middle new may none added written = tt
+finishes (Err failed) layers line text buffer old middle new may none added written = tt

@@ -2,6 +2,6 @@ pub mod LineLemmas
 pub mod ReadLemmas
 pub mod QuestionLemmas
 pub mod ReplyLemmas
-pub mod BlockLemmas
+pub mod BufferLemmas
 pub mod TakingLemmas
 pub mod AskingLemmas

@@ -19,7 +19,7 @@ use crate::question::{Question, read_question};
 use crate::taking::take_anew;
 use crate::telling::Teller;
 use crate::turn::{end, finish, write_count, write_refused};
-use graph_commands::block::Block;
+use graph_commands::buffer::Buffer;
 use graph_commands::line::WriteFailed;
 use graph_commands::run::refuse;
 use graph_folder::folder::{Folder, ReadError};
@@ -129,18 +129,25 @@ fn answer_all<R: Read, T: Folder, W: Write>(
         × (ended.checked ≡ all_checked turns)) }
     ensures tree { T.tree folder.new ≡ T.tree folder.old }
 {
-    let (Ok(mut lines), Ok(mut block)) = (LineReader::new(alloc), Block::new(alloc)) else {
+    let (Ok(mut lines), Ok(mut buffer)) = (LineReader::new(alloc), Buffer::new(alloc)) else {
         return Ok(Ended {
             failed: Some(ReadError::OutOfMemory),
             checked: 0,
         });
     };
     answer_lines(
-        alloc, &mut lines, reader, folder, path, &mut block, writer, graph,
+        alloc,
+        &mut lines,
+        reader,
+        folder,
+        path,
+        &mut buffer,
+        writer,
+        graph,
     )
 }
 
-/// Answers lines as `answer_all` does, with a reader of lines that has read none, and a block that
+/// Answers lines as `answer_all` does, with a reader of lines that has read none, and a buffer that
 /// has nothing.
 fn answer_lines<R: Read, T: Folder, W: Write>(
     alloc: Global,
@@ -148,12 +155,12 @@ fn answer_lines<R: Read, T: Folder, W: Write>(
     reader: &mut R,
     folder: &mut T,
     path: &str,
-    block: &mut Block,
+    buffer: &mut Buffer,
     writer: &mut W,
     graph: CheckedGraph,
 ) -> Result<Ended, WriteFailed>
     requires lines { lines.old.ahead ≡ [] }
-    requires block { block.old ≡ [] }
+    requires buffer { buffer.old ≡ [] }
     requires options { graph.options ≡ plain_options }
     ensures answered { IfOk result (λ ended. (turns : List Turn) × (last : Standing)
         × AreTurns (MayOpen (T.tree folder.old) path.now)
@@ -167,7 +174,7 @@ fn answer_lines<R: Read, T: Folder, W: Write>(
 {
     let (mut graph, mut checked) = (graph, 0u64);
     for _ in 0..u64::MAX {
-        let next = answer_over(alloc, &graph, lines, reader, block, writer)?;
+        let next = answer_over(alloc, &graph, lines, reader, buffer, writer)?;
         match next {
             Next::End => {
                 return Ok(Ended {
@@ -243,15 +250,15 @@ pub fn answer_over<R: Read, W: Write>(
     graph: &CheckedGraph,
     lines: &mut LineReader,
     reader: &mut R,
-    block: &mut Block,
+    buffer: &mut Buffer,
     writer: &mut W,
 ) -> Result<Next, WriteFailed>
-    requires { block.old ≡ [] }
+    requires { buffer.old ≡ [] }
     ensures answered { IfOk result (λ next. (left : Option (List ℕ))
         × AnswersOver graph.now.layers (prepend_known lines.old.ahead (R.remaining reader.old)) left
         (W.contents writer.old) (W.contents writer.new)
         × StopsAt left (prepend_known lines.new.ahead (R.remaining reader.new)) next) }
-    ensures block { OnOk result (block.new ≡ []) }
+    ensures buffer { OnOk result (buffer.new ≡ []) }
 {
     let graph = graph.as_checked();
     let mut teller = Teller::new(alloc, &graph);
@@ -263,7 +270,7 @@ pub fn answer_over<R: Read, W: Write>(
         if !more {
             return Ok(Next::End);
         }
-        if !answer(alloc, &mut teller, lines.line(), block, writer)? {
+        if !answer(alloc, &mut teller, lines.line(), buffer, writer)? {
             return Ok(Next::Reload);
         }
     }
@@ -275,31 +282,31 @@ fn answer<W: Write>(
     alloc: Global,
     teller: &mut Teller<'_, '_>,
     line: &[u8],
-    block: &mut Block,
+    buffer: &mut Buffer,
     writer: &mut W,
 ) -> Result<bool, WriteFailed>
-    requires { block.old ≡ [] }
+    requires { buffer.old ≡ [] }
     ensures told { IfOk result (λ told. told ≡ true → (text : List ℕ)
         × MayBeTold teller.old line.now text
         × Appends (W.contents writer.old) (W.contents writer.new) (text ⧺ newline)) }
     ensures reload { IfOk result (λ told. told ≡ false → Asks line.now Question.Reload
         × (writer.new ≡ writer.old)) }
-    ensures block { OnOk result (block.new ≡ []) }
+    ensures buffer { OnOk result (buffer.new ≡ []) }
     ensures teller { teller.new ≡ teller.old }
 {
     match read_question(alloc, line) {
         Ok(Some(Question::Reload)) => Ok(false),
         Ok(Some(question)) => {
-            teller.tell(&question, block, writer)?;
-            finish(block, writer)
+            teller.tell(&question, buffer, writer)?;
+            finish(buffer, writer)
         }
         Ok(None) => {
-            block.push_text(writer, "refused question\n")?;
-            finish(block, writer)
+            buffer.push_text(writer, "refused question\n")?;
+            finish(buffer, writer)
         }
         Err(_) => {
-            block.push_text(writer, "refused walk\n")?;
-            finish(block, writer)
+            buffer.push_text(writer, "refused walk\n")?;
+            finish(buffer, writer)
         }
     }
 }

@@ -7,7 +7,7 @@ ghost use Rattle.std.specs.List.{flat_map};
 ghost use Rattle.gix_hash_core.specs.Oid.{oid_bytes};
 ghost use Rattle.gix_commitgraph.specs.Graph.{total};
 ghost use Rattle.graph_commands.specs.Ancestor.{IsThere};
-ghost use Rattle.graph_commands.specs.Block.{with_block};
+ghost use Rattle.graph_commands.specs.Buffer.{with_buffer};
 ghost use Rattle.graph_commands.specs.Report.{commit_text, found_line};
 ghost use Rattle.graph_commands.specs.Text.{◌⧺◌, newline};
 ghost use Rattle.history_commands.specs.IsAncestor.{IsTold, is_ancestor_text};
@@ -24,7 +24,7 @@ ghost use Rattle.question_commands.specs.declared.question.Name.TheVariants as n
 use crate::question::Question;
 use gix_commitgraph::Position;
 use gix_hash_core::{ObjectId, oid};
-use graph_commands::block::Block;
+use graph_commands::buffer::Buffer;
 use graph_commands::find::found_in;
 use graph_commands::line::WriteFailed;
 use graph_commands::refusal::Refusal;
@@ -83,7 +83,7 @@ impl<'c, 'g> Teller<'c, 'g> {
     pub fn tell<W: Write>(
         &mut self,
         question: &Question,
-        block: &mut Block,
+        buffer: &mut Buffer,
         writer: &mut W,
     ) -> Result<(), WriteFailed>
         requires asks { question.now ≢ Question.Reload }
@@ -91,24 +91,38 @@ impl<'c, 'g> Teller<'c, 'g> {
         ensures graph { self.new ≡ self.old }
         ensures told { OnOk result
             (AddsReply self.old (question_name question.now) (question_ids question.now)
-            (with_block (W.contents writer.old) block.old)
-            (with_block (W.contents writer.new) block.new)) }
+            (with_buffer (W.contents writer.old) buffer.old)
+            (with_buffer (W.contents writer.new) buffer.new)) }
     {
         match question {
-            Question::Find(id) => tell_found(self.graph, id.as_oid(), block, writer),
+            Question::Find(id) => tell_found(self.graph, id.as_oid(), buffer, writer),
             Question::IsAncestor(first, second) => {
                 let (first, second) = (first.as_oid(), second.as_oid());
-                tell_ancestor(self.graph, &mut self.searcher, first, second, block, writer)
+                tell_ancestor(
+                    self.graph,
+                    &mut self.searcher,
+                    first,
+                    second,
+                    buffer,
+                    writer,
+                )
             }
             Question::Walk(first, second) => {
                 let (first, second) = (first.as_oid(), second.as_oid());
-                tell_walk(self.graph, &mut self.searcher, first, second, block, writer)
+                tell_walk(
+                    self.graph,
+                    &mut self.searcher,
+                    first,
+                    second,
+                    buffer,
+                    writer,
+                )
             }
-            Question::MergeBase(first, others) => {
+            Question::MergeBase(first, more) => {
                 let first = first.as_oid();
-                tell_compared(self.alloc, &mut self.comparer, first, others, block, writer)
+                tell_compared(self.alloc, &mut self.comparer, first, more, buffer, writer)
             }
-            Question::Parents(id) => tell_parents(self.graph, id.as_oid(), block, writer),
+            Question::Parents(id) => tell_parents(self.graph, id.as_oid(), buffer, writer),
             Question::Reload => unreachable!(),
         }
     }
@@ -118,45 +132,49 @@ impl<'c, 'g> Teller<'c, 'g> {
 fn tell_found<W: Write>(
     graph: &Checked<'_>,
     id: oid<'_>,
-    block: &mut Block,
+    buffer: &mut Buffer,
     writer: &mut W,
 ) -> Result<(), WriteFailed>
     ensures { OnOk result (AddsReply graph.now.layers named.Find (oid_bytes id.entry ∷ [])
-        (with_block (W.contents writer.old) block.old)
-        (with_block (W.contents writer.new) block.new)) }
+        (with_buffer (W.contents writer.old) buffer.old)
+        (with_buffer (W.contents writer.new) buffer.new)) }
 {
     let found = found_in(graph.graph(), id);
-    push_found(block, writer, found)
+    push_found(buffer, writer, found)
 }
 
 /// Adds the line of a commit that was found, or that there is none. `WriteFailed` comes where the
 /// writer fails.
 pub fn push_found<W: Write>(
-    block: &mut Block,
+    buffer: &mut Buffer,
     writer: &mut W,
     found: Option<Found>,
 ) -> Result<(), WriteFailed>
-    ensures { OnOk result (Appends (with_block (W.contents writer.old) block.old)
-        (with_block (W.contents writer.new) block.new) (found_line found)) }
+    ensures { OnOk result (Appends (with_buffer (W.contents writer.old) buffer.old)
+        (with_buffer (W.contents writer.new) buffer.new) (found_line found)) }
 {
     match found {
-        Some(found) => push_commit(block, writer, found),
-        None => block.push_text(writer, "none\n"),
+        Some(found) => push_commit(buffer, writer, found),
+        None => buffer.push_text(writer, "none\n"),
     }
 }
 
 /// Adds the line of a commit.
-fn push_commit<W: Write>(block: &mut Block, writer: &mut W, found: Found) -> Result<(), WriteFailed>
-    ensures { OnOk result (Appends (with_block (W.contents writer.old) block.old)
-        (with_block (W.contents writer.new) block.new) (commit_text found ⧺ newline)) }
+fn push_commit<W: Write>(
+    buffer: &mut Buffer,
+    writer: &mut W,
+    found: Found,
+) -> Result<(), WriteFailed>
+    ensures { OnOk result (Appends (with_buffer (W.contents writer.old) buffer.old)
+        (with_buffer (W.contents writer.new) buffer.new) (commit_text found ⧺ newline)) }
 {
-    block.push_text(writer, "position ")?;
-    block.push_decimal(writer, found.pos.0 as u64)?;
-    block.push_text(writer, " generation ")?;
-    block.push_decimal(writer, found.generation as u64)?;
-    block.push_text(writer, " time ")?;
-    block.push_decimal(writer, found.time)?;
-    block.push_byte(writer, b'\n')
+    buffer.push_text(writer, "position ")?;
+    buffer.push_decimal(writer, found.pos.0 as u64)?;
+    buffer.push_text(writer, " generation ")?;
+    buffer.push_decimal(writer, found.generation as u64)?;
+    buffer.push_text(writer, " time ")?;
+    buffer.push_decimal(writer, found.time)?;
+    buffer.push_byte(writer, b'\n')
 }
 
 /// Adds the line of whether the commit with the first id is an ancestor of the one with the second,
@@ -166,20 +184,20 @@ fn tell_ancestor<W: Write>(
     searcher: &mut Searcher<'_>,
     first: oid<'_>,
     second: oid<'_>,
-    block: &mut Block,
+    buffer: &mut Buffer,
     writer: &mut W,
 ) -> Result<(), WriteFailed>
     requires { searcher.old ≡ graph.now.layers }
     ensures told { OnOk result (AddsReply graph.now.layers named.IsAncestor
         (oid_bytes first.entry ∷ oid_bytes second.entry ∷ [])
-        (with_block (W.contents writer.old) block.old)
-        (with_block (W.contents writer.new) block.new)) }
+        (with_buffer (W.contents writer.old) buffer.old)
+        (with_buffer (W.contents writer.new) buffer.new)) }
     ensures searcher { searcher.new ≡ searcher.old }
 {
     // The contract of `num_commits` says that the graph is right.
     let _commits = graph.num_commits();
     let told = is_ancestor(graph, searcher, first, second);
-    push_told(block, writer, &told)
+    push_told(buffer, writer, &told)
 }
 
 /// Whether the commit with the first id is an ancestor of the one with the second, or the same. The
@@ -212,20 +230,20 @@ fn is_ancestor(
 
 /// Adds the line of whether a commit is an ancestor of another, or that memory ran out.
 fn push_told<W: Write>(
-    block: &mut Block,
+    buffer: &mut Buffer,
     writer: &mut W,
     told: &Result<Answer<bool>, Refusal>,
 ) -> Result<(), WriteFailed>
     requires { IfErr told.now (λ refusal. refusal ≡ Refusal.Walk) }
-    ensures { OnOk result (Appends (with_block (W.contents writer.old) block.old)
-        (with_block (W.contents writer.new) block.new) (is_ancestor_text told.now)) }
+    ensures { OnOk result (Appends (with_buffer (W.contents writer.old) buffer.old)
+        (with_buffer (W.contents writer.new) buffer.new) (is_ancestor_text told.now)) }
 {
     match told {
         Ok(answer) => {
-            block.push_text(writer, answer.word())?;
-            block.push_byte(writer, b'\n')
+            buffer.push_text(writer, answer.word())?;
+            buffer.push_byte(writer, b'\n')
         }
-        Err(_) => block.push_text(writer, REFUSED_WALK),
+        Err(_) => buffer.push_text(writer, REFUSED_WALK),
     }
 }
 
@@ -236,21 +254,21 @@ fn tell_walk<W: Write>(
     searcher: &mut Searcher<'_>,
     first: oid<'_>,
     second: oid<'_>,
-    block: &mut Block,
+    buffer: &mut Buffer,
     writer: &mut W,
 ) -> Result<(), WriteFailed>
     requires { searcher.old ≡ graph.now.layers }
     ensures told { OnOk result (AddsReply graph.now.layers named.Walk
         (oid_bytes first.entry ∷ oid_bytes second.entry ∷ [])
-        (with_block (W.contents writer.old) block.old)
-        (with_block (W.contents writer.new) block.new)) }
+        (with_buffer (W.contents writer.old) buffer.old)
+        (with_buffer (W.contents writer.new) buffer.new)) }
     ensures searcher { searcher.new ≡ searcher.old }
 {
     // The contract of `num_commits` says that the graph is right.
     let _commits = graph.num_commits();
     match walk(graph, searcher, first, second) {
-        Ok(found) => push_walk(block, writer, graph, &found),
-        Err(_) => block.push_text(writer, REFUSED_WALK),
+        Ok(found) => push_walk(buffer, writer, graph, &found),
+        Err(_) => buffer.push_text(writer, REFUSED_WALK),
     }
 }
 
@@ -289,56 +307,56 @@ fn walk(
 
 /// Adds the lines of the ids on a walk, or that there is none, or which id is not there.
 fn push_walk<W: Write>(
-    block: &mut Block,
+    buffer: &mut Buffer,
     writer: &mut W,
     graph: &Checked<'_>,
     found: &FoundWalk,
 ) -> Result<(), WriteFailed>
     requires { AreInGraph graph.now.layers found.now }
-    ensures { OnOk result (Appends (with_block (W.contents writer.old) block.old)
-        (with_block (W.contents writer.new) block.new)
+    ensures { OnOk result (Appends (with_buffer (W.contents writer.old) buffer.old)
+        (with_buffer (W.contents writer.new) buffer.new)
         (walk_found_text (with_ids graph.now.layers found.now))) }
 {
     match found {
-        Answer::FirstUnknown => block.push_text(writer, "unknown 1\n"),
-        Answer::SecondUnknown => block.push_text(writer, "unknown 2\n"),
-        Answer::Known(reached) => push_reached(block, writer, graph, reached),
+        Answer::FirstUnknown => buffer.push_text(writer, "unknown 1\n"),
+        Answer::SecondUnknown => buffer.push_text(writer, "unknown 2\n"),
+        Answer::Known(reached) => push_reached(buffer, writer, graph, reached),
     }
 }
 
 /// Adds the lines of the ids on a walk, or that there is none.
 fn push_reached<W: Write>(
-    block: &mut Block,
+    buffer: &mut Buffer,
     writer: &mut W,
     graph: &Checked<'_>,
     reached: &Option<Vec<Position>>,
 ) -> Result<(), WriteFailed>
     requires { AreInGraph graph.now.layers (Answer.Known reached.now) }
-    ensures { OnOk result (Appends (with_block (W.contents writer.old) block.old)
-        (with_block (W.contents writer.new) block.new)
+    ensures { OnOk result (Appends (with_buffer (W.contents writer.old) buffer.old)
+        (with_buffer (W.contents writer.new) buffer.new)
         (walk_found_text (with_ids graph.now.layers (Answer.Known reached.now)))) }
 {
     match reached {
-        Some(walk) => push_ids(block, writer, graph, walk),
-        None => block.push_text(writer, "none\n"),
+        Some(walk) => push_ids(buffer, writer, graph, walk),
+        None => buffer.push_text(writer, "none\n"),
     }
 }
 
 /// Adds the ids at these positions, a line for each.
 fn push_ids<W: Write>(
-    block: &mut Block,
+    buffer: &mut Buffer,
     writer: &mut W,
     graph: &Checked<'_>,
     walk: &[Position],
 ) -> Result<(), WriteFailed>
     requires { All (λ pos. pos.0 < total graph.now.layers) walk.now }
-    ensures { OnOk result (Appends (with_block (W.contents writer.old) block.old)
-        (with_block (W.contents writer.new) block.new)
+    ensures { OnOk result (Appends (with_buffer (W.contents writer.old) buffer.old)
+        (with_buffer (W.contents writer.new) buffer.new)
         (flat_map (λ pos. id_line (id_in graph.now.layers pos.0)) walk.now)) }
 {
     for pos in walk {
-        block.push_id(writer, graph.id(*pos))?;
-        block.push_byte(writer, b'\n')?;
+        buffer.push_id(writer, graph.id(*pos))?;
+        buffer.push_byte(writer, b'\n')?;
     }
     Ok(())
 }
@@ -350,22 +368,22 @@ fn tell_compared<W: Write>(
     comparer: &mut Comparer<'_, '_>,
     first: oid<'_>,
     others: &[ObjectId],
-    block: &mut Block,
+    buffer: &mut Buffer,
     writer: &mut W,
 ) -> Result<(), WriteFailed>
     requires { others.now ≢ [] }
     ensures told { OnOk result (AddsReply comparer.old.layers named.MergeBase
         (oid_bytes first.entry ∷ others.now)
-        (with_block (W.contents writer.old) block.old)
-        (with_block (W.contents writer.new) block.new)) }
+        (with_buffer (W.contents writer.old) buffer.old)
+        (with_buffer (W.contents writer.new) buffer.new)) }
     ensures comparer { comparer.new ≡ comparer.old }
 {
     let graph = comparer.graph();
     // The contract of `num_commits` says that the graph is right.
     let _commits = graph.num_commits();
     match compare(alloc, comparer, first, others) {
-        Ok(compared) => push_compared(block, writer, graph, &compared),
-        Err(_) => block.push_text(writer, REFUSED_WALK),
+        Ok(compared) => push_compared(buffer, writer, graph, &compared),
+        Err(_) => buffer.push_text(writer, REFUSED_WALK),
     }
 }
 
@@ -402,46 +420,46 @@ fn compare(
 
 /// Adds the lines of what was found of commits.
 fn push_compared<W: Write>(
-    block: &mut Block,
+    buffer: &mut Buffer,
     writer: &mut W,
     graph: &Checked<'_>,
     compared: &Compared,
 ) -> Result<(), WriteFailed>
     requires { AreBasesWithin graph.now.layers compared.now }
-    ensures { OnOk result (Appends (with_block (W.contents writer.old) block.old)
-        (with_block (W.contents writer.new) block.new)
+    ensures { OnOk result (Appends (with_buffer (W.contents writer.old) buffer.old)
+        (with_buffer (W.contents writer.new) buffer.new)
         (compared_text graph.now.layers compared.now)) }
 {
     match compared {
         Compared::Unknown(number) => {
-            block.push_text(writer, "unknown ")?;
-            block.push_decimal(writer, *number)?;
-            block.push_byte(writer, b'\n')
+            buffer.push_text(writer, "unknown ")?;
+            buffer.push_decimal(writer, *number)?;
+            buffer.push_byte(writer, b'\n')
         }
         Compared::Known(comparison) => {
-            push_bases(block, writer, graph, &comparison.bases.positions)?;
-            push_counts(block, writer, comparison)
+            push_bases(buffer, writer, graph, &comparison.bases.positions)?;
+            push_counts(buffer, writer, comparison)
         }
     }
 }
 
 /// Adds the lines of bases, or that there is none.
 fn push_bases<W: Write>(
-    block: &mut Block,
+    buffer: &mut Buffer,
     writer: &mut W,
     graph: &Checked<'_>,
     bases: &[Position],
 ) -> Result<(), WriteFailed>
     requires { All (λ base. base.0 < total graph.now.layers) bases.now }
-    ensures { OnOk result (Appends (with_block (W.contents writer.old) block.old)
-        (with_block (W.contents writer.new) block.new)
+    ensures { OnOk result (Appends (with_buffer (W.contents writer.old) buffer.old)
+        (with_buffer (W.contents writer.new) buffer.new)
         (bases_text (merge_base_line graph.now.layers) bases.now)) }
 {
     if bases.is_empty() {
-        return block.push_text(writer, "none\n");
+        return buffer.push_text(writer, "none\n");
     }
     for base in bases {
-        push_base(block, writer, graph, *base)?;
+        push_base(buffer, writer, graph, *base)?;
     }
     Ok(())
 }
@@ -449,56 +467,56 @@ fn push_bases<W: Write>(
 /// Adds how many commits are ahead and behind, and how many were visited. `WriteFailed` comes where
 /// the writer fails.
 pub fn push_counts<W: Write>(
-    block: &mut Block,
+    buffer: &mut Buffer,
     writer: &mut W,
     comparison: &Comparison,
 ) -> Result<(), WriteFailed>
-    ensures { OnOk result (Appends (with_block (W.contents writer.old) block.old)
-        (with_block (W.contents writer.new) block.new) (counts_text comparison.now)) }
+    ensures { OnOk result (Appends (with_buffer (W.contents writer.old) buffer.old)
+        (with_buffer (W.contents writer.new) buffer.new) (counts_text comparison.now)) }
 {
     let Divergence { ahead, behind } = comparison.divergence;
-    block.push_text(writer, "ahead ")?;
-    block.push_decimal(writer, ahead as u64)?;
-    block.push_text(writer, " behind ")?;
-    block.push_decimal(writer, behind as u64)?;
-    block.push_text(writer, "\nvisits ")?;
-    block.push_decimal(writer, comparison.bases.visits)?;
-    block.push_byte(writer, b'\n')
+    buffer.push_text(writer, "ahead ")?;
+    buffer.push_decimal(writer, ahead as u64)?;
+    buffer.push_text(writer, " behind ")?;
+    buffer.push_decimal(writer, behind as u64)?;
+    buffer.push_text(writer, "\nvisits ")?;
+    buffer.push_decimal(writer, comparison.bases.visits)?;
+    buffer.push_byte(writer, b'\n')
 }
 
 /// Adds the line of the parents of the commit with an id, or that it is not there.
 fn tell_parents<W: Write>(
     graph: &Checked<'_>,
     id: oid<'_>,
-    block: &mut Block,
+    buffer: &mut Buffer,
     writer: &mut W,
 ) -> Result<(), WriteFailed>
     ensures { OnOk result (AddsReply graph.now.layers named.Parents (oid_bytes id.entry ∷ [])
-        (with_block (W.contents writer.old) block.old)
-        (with_block (W.contents writer.new) block.new)) }
+        (with_buffer (W.contents writer.old) buffer.old)
+        (with_buffer (W.contents writer.new) buffer.new)) }
 {
     match graph.find(id) {
-        Some(pos) => push_parents(block, writer, graph, pos),
-        None => block.push_text(writer, "unknown 1\n"),
+        Some(pos) => push_parents(buffer, writer, graph, pos),
+        None => buffer.push_text(writer, "unknown 1\n"),
     }
 }
 
 /// Adds the line of the parents of the commit at a position.
 fn push_parents<W: Write>(
-    block: &mut Block,
+    buffer: &mut Buffer,
     writer: &mut W,
     graph: &Checked<'_>,
     pos: Position,
 ) -> Result<(), WriteFailed>
     requires { pos.0 < total graph.now.layers }
-    ensures { OnOk result (Appends (with_block (W.contents writer.old) block.old)
-        (with_block (W.contents writer.new) block.new)
+    ensures { OnOk result (Appends (with_buffer (W.contents writer.old) buffer.old)
+        (with_buffer (W.contents writer.new) buffer.new)
         (parents_line (Some (parent_ids_at graph.now.layers pos.0)))) }
 {
-    block.push_text(writer, "parents")?;
+    buffer.push_text(writer, "parents")?;
     for parent in graph.parents(pos) {
-        block.push_byte(writer, b' ')?;
-        block.push_id(writer, graph.id(parent))?;
+        buffer.push_byte(writer, b' ')?;
+        buffer.push_id(writer, graph.id(parent))?;
     }
-    block.push_byte(writer, b'\n')
+    buffer.push_byte(writer, b'\n')
 }

@@ -2,11 +2,11 @@
 
 ghost use Rattle.std.specs.Prelude.{◌≡◌, [], true, Ok, Err, IfOk, OnOk};
 ghost use Rattle.std.specs.Io.KnownBytes.{Appends};
-ghost use Rattle.graph_commands.specs.Block.{with_block};
+ghost use Rattle.graph_commands.specs.Buffer.{with_buffer};
 ghost use Rattle.graph_commands.specs.Text.{◌⧺◌, newline};
 ghost use Rattle.question_commands.specs.Taken.{opened_line, end_status, end_text};
 
-use graph_commands::block::Block;
+use graph_commands::buffer::Buffer;
 use graph_commands::line::{WriteFailed, write_line};
 use graph_commands::refusal::Refusal;
 use graph_commands::run::refuse;
@@ -38,14 +38,14 @@ pub fn write_refused<W: Write>(writer: &mut W, refusal: &Refusal) -> Result<(), 
 
 /// Adds an empty line to an answer, writes the whole and flushes it. It answers that this was done.
 /// `WriteFailed` comes where the writer fails.
-pub fn finish<W: Write>(block: &mut Block, writer: &mut W) -> Result<bool, WriteFailed>
-    ensures written { OnOk result (Appends (with_block (W.contents writer.old) block.old)
+pub fn finish<W: Write>(buffer: &mut Buffer, writer: &mut W) -> Result<bool, WriteFailed>
+    ensures written { OnOk result (Appends (with_buffer (W.contents writer.old) buffer.old)
         (W.contents writer.new) newline) }
-    ensures block { OnOk result (block.new ≡ []) }
+    ensures buffer { OnOk result (buffer.new ≡ []) }
     ensures told { IfOk result (λ told. told ≡ true) }
 {
-    block.push_byte(writer, b'\n')?;
-    block.write_out(writer)?;
+    buffer.push_byte(writer, b'\n')?;
+    buffer.write_out(writer)?;
     writer.flush()?;
     Ok(true)
 }

@@ -6,7 +6,7 @@ use Rattle.std.specs.Prelude.{Option, OnOk}
 use Rattle.std.specs.List.{enumerate_from, flat_map}
 use Rattle.std.specs.Io.KnownBytes.{Appends}
 use Rattle.std.proofs.KnownBytes.{Appends-trans}
-use Rattle.graph_commands.proofs.BlockLemmas.{appends_last}
+use Rattle.graph_commands.proofs.BufferLemmas.{appends_last}
 
 -- three texts that were written, the last perhaps
 pub three_texts : {T E : Type 0} (result : Result T E) (a b c d : Option (List ℕ)) (xs ys zs : List ℕ)

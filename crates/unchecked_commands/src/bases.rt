@@ -16,7 +16,7 @@ use crate::unread::answer_unread;
 use crate::walk::write_ids;
 use gix_commitgraph::Position;
 use gix_hash_core::ObjectId;
-use graph_commands::block::Block;
+use graph_commands::buffer::Buffer;
 use graph_commands::line::{WriteFailed, write_line};
 use graph_commands::refusal::Refusal;
 use graph_commands::run::refuse;
@@ -114,7 +114,7 @@ fn compare_by_parts<T: Folder>(
     }
 }
 
-/// Writes what is found, and answers the exit status. The lines of bases go through a block, and
+/// Writes what is found, and answers the exit status. The lines of bases go through a buffer, and
 /// where there is no memory for one, that is told in their place.
 fn tell<W: Write>(alloc: Global, writer: &mut W, found: &Found) -> Result<u8, WriteFailed>
     ensures { IfOk result (WritesAnswer told_bases_text told_bases_status
@@ -128,10 +128,10 @@ fn tell<W: Write>(alloc: Global, writer: &mut W, found: &Found) -> Result<u8, Wr
             write_counts(writer, &answer.comparison)?;
             Ok(Status::No as u8)
         }
-        Among::Known(answer) => match Block::new(alloc) {
-            Ok(mut block) => {
+        Among::Known(answer) => match Buffer::new(alloc) {
+            Ok(mut buffer) => {
                 let bases = &answer.comparison.bases.positions;
-                write_bases(&mut block, writer, bases, &answer.base_ids)?;
+                write_bases(&mut buffer, writer, bases, &answer.base_ids)?;
                 write_counts(writer, &answer.comparison)?;
                 Ok(Status::Yes as u8)
             }
@@ -141,7 +141,7 @@ fn tell<W: Write>(alloc: Global, writer: &mut W, found: &Found) -> Result<u8, Wr
 }
 
 /// Writes what is found, of the bases their ids alone, and answers the exit status. The ids go
-/// through a block, and where there is no memory for one, that is told in their place.
+/// through a buffer, and where there is no memory for one, that is told in their place.
 fn tell_ids<W: Write>(alloc: Global, writer: &mut W, found: &Found) -> Result<u8, WriteFailed>
     ensures { IfOk result (WritesAnswer told_ids_text told_bases_status
         (IsToldOf MayHaveLines (told_among found.now))
@@ -152,9 +152,9 @@ fn tell_ids<W: Write>(alloc: Global, writer: &mut W, found: &Found) -> Result<u8
         Among::Known(answer) if answer.comparison.bases.positions.is_empty() => tell_none(
             writer, "none",
         ),
-        Among::Known(answer) => match Block::new(alloc) {
-            Ok(mut block) => {
-                write_ids(&mut block, writer, &answer.base_ids)?;
+        Among::Known(answer) => match Buffer::new(alloc) {
+            Ok(mut buffer) => {
+                write_ids(&mut buffer, writer, &answer.base_ids)?;
                 Ok(Status::Yes as u8)
             }
             Err(_) => refuse(writer, &Refusal::Walk),
@@ -164,17 +164,17 @@ fn tell_ids<W: Write>(alloc: Global, writer: &mut W, found: &Found) -> Result<u8
 
 /// Writes the lines of bases: the position of each, and its id.
 fn write_bases<W: Write>(
-    block: &mut Block,
+    buffer: &mut Buffer,
     writer: &mut W,
     bases: &[Position],
     ids: &[ObjectId],
 ) -> Result<(), WriteFailed>
-    requires empty { block.old ≡ [] }
+    requires empty { buffer.old ≡ [] }
     ensures { OnOk result (Appends (W.contents writer.old) (W.contents writer.new)
         (flat_map line_of_told (zip bases.now ids.now))) }
 {
     for place in 0..bases.len().min(ids.len()) {
-        push_line_of_base(block, writer, bases[place], ids[place].as_oid())?;
+        push_line_of_base(buffer, writer, bases[place], ids[place].as_oid())?;
     }
-    block.write_out(writer)
+    buffer.write_out(writer)
 }

@@ -13,7 +13,7 @@ ghost use Rattle.unchecked_commands.specs.UncheckedWalk.{listed_walk, listed_by_
 
 use crate::ancestor::answer_by_parts;
 use gix_hash_core::ObjectId;
-use graph_commands::block::Block;
+use graph_commands::buffer::Buffer;
 use graph_commands::line::WriteFailed;
 use graph_commands::refusal::Refusal;
 use graph_commands::run::refuse;
@@ -96,7 +96,7 @@ fn tell<W: Write>(alloc: Global, writer: &mut W, found: &Found) -> Result<u8, Wr
 }
 
 /// Writes the ids on a walk, or that there is none, and answers the exit status. A walk goes
-/// through a block, and where there is no memory for one, that is told in its place.
+/// through a buffer, and where there is no memory for one, that is told in its place.
 fn tell_walk<W: Write>(
     alloc: Global,
     writer: &mut W,
@@ -107,9 +107,9 @@ fn tell_walk<W: Write>(
         (W.contents writer.old) (W.contents writer.new)) }
 {
     match walk {
-        Some(ids) => match Block::new(alloc) {
-            Ok(mut block) => {
-                write_ids(&mut block, writer, ids)?;
+        Some(ids) => match Buffer::new(alloc) {
+            Ok(mut buffer) => {
+                write_ids(&mut buffer, writer, ids)?;
                 Ok(Status::Yes as u8)
             }
             Err(_) => refuse(writer, &Refusal::Walk),
@@ -120,17 +120,17 @@ fn tell_walk<W: Write>(
 
 /// Writes ids, a line for each.
 pub(crate) fn write_ids<W: Write>(
-    block: &mut Block,
+    buffer: &mut Buffer,
     writer: &mut W,
     ids: &[ObjectId],
 ) -> Result<(), WriteFailed>
-    requires empty { block.old ≡ [] }
+    requires empty { buffer.old ≡ [] }
     ensures { OnOk result (Appends (W.contents writer.old) (W.contents writer.new)
         (flat_map id_line ids.now)) }
 {
     for id in ids {
-        block.push_id(writer, id.as_oid())?;
-        block.push_byte(writer, b'\n')?;
+        buffer.push_id(writer, id.as_oid())?;
+        buffer.push_byte(writer, b'\n')?;
     }
-    block.write_out(writer)
+    buffer.write_out(writer)
 }

@@ -11,7 +11,7 @@ use Rattle.graph_folder.specs.declared.folder.ReadError.{ReadError}
 use Rattle.graph_folder.specs.declared.folder.ReadError.TheVariants.{NotOpened}
 use Rattle.graph_format.specs.Layer.{Layer}
 use Rattle.graph_layer.specs.declared.opening.error.OpenError.{OpenError}
-use Rattle.graph_commands.specs.Block.{with_block}
+use Rattle.graph_commands.specs.Buffer.{with_buffer}
 use Rattle.graph_commands.specs.Text.{newline}
 use Rattle.graph_commands.specs.WrittenAnswer.{WritesAnswer, WritesRefusal}
 use Rattle.graph_commands.specs.declared.refusal.Refusal.{Refusal}
@@ -28,7 +28,7 @@ use Rattle.question_commands.specs.declared.asking.Next.{Next}
 use Rattle.question_commands.specs.declared.question.Question.{Question}
 use Rattle.question_commands.specs.declared.question.Question.TheVariants as question
 use Rattle.question_commands.proofs.ReadLemmas.{lines_ended, lines_failed, reads_line, reads_more, reads_none}
-use Rattle.question_commands.proofs.BlockLemmas.{with_nothing}
+use Rattle.question_commands.proofs.BufferLemmas.{with_nothing}
 
 -- what is told for what is kept of a line is told for the line
 told_kept : (MayOpen : Opener) (before after : ℕ) (line kept told : List ℕ) → IsKeptAs line kept
@@ -146,22 +146,23 @@ answered_to_failure MayOpen first last input left unread old new error before is
     (before.0, before.1, lines_failed input left unread asked error before.2 is, before.3)
 
 -- an answer and an empty line were written, if they were
-pub adds_told : (MayTell : List ℕ → Type 0) (told block : List ℕ)
-    (old middle new : Option (List ℕ)) → MayTell told → block ≡ [] → Appends (with_block old block) middle told
+pub adds_told : (MayTell : List ℕ → Type 0) (told buffer : List ℕ)
+    (old middle new : Option (List ℕ)) → MayTell told → buffer ≡ [] → Appends (with_buffer old buffer) middle told
     → Appends middle new newline → AddsTold MayTell old new
-adds_told MayTell told block old middle new may none added written =
+adds_told MayTell told buffer old middle new may none added written =
     let begun : Appends old middle told =
-    subst (λ (front : Option (List ℕ)). Appends front middle told) (ap (λ (b : List ℕ). with_block old b) none ∙ with_nothing old)
+    subst (λ (front : Option (List ℕ)). Appends front middle told)
+    (ap (λ (b : List ℕ). with_buffer old b) none ∙ with_nothing old)
     added in
     (told, may, Appends-trans old middle new told newline begun written)
 
 -- the same, where that was told
-pub finishes : {E : Type 0} (result : Result Bool E) (MayTell : List ℕ → Type 0) (told block : List ℕ)
-    (old middle new : Option (List ℕ)) → MayTell told → block ≡ [] → Appends (with_block old block) middle told
+pub finishes : {E : Type 0} (result : Result Bool E) (MayTell : List ℕ → Type 0) (told buffer : List ℕ)
+    (old middle new : Option (List ℕ)) → MayTell told → buffer ≡ [] → Appends (with_buffer old buffer) middle told
     → OnOk result (Appends middle new newline) → IfOk result (λ (is : Bool). is ≡ true → AddsTold MayTell old new)
-finishes (Ok is) MayTell told block old middle new may none added written =
-    λ yes. adds_told MayTell told block old middle new may none added written
-finishes (Err error) MayTell told block old middle new may none added written = tt
+finishes (Ok is) MayTell told buffer old middle new may none added written =
+    λ yes. adds_told MayTell told buffer old middle new may none added written
+finishes (Err error) MayTell told buffer old middle new may none added written = tt
 
 -- what is told of a right graph that was taken may be told for the question
 pub adds_taken : {T E : Type 0} (result : Result T E) (MayOpen : Result (List Layer) OpenError → Type 0) (before after : ℕ)

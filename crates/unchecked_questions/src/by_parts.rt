@@ -4,7 +4,7 @@ ghost use Rattle.std.specs.Prelude.{◌≡◌, ◌≢◌, ◌⊎◌, ℕ, List, 
 ghost use Rattle.std.specs.Prelude.{option_map};
 ghost use Rattle.std.specs.Io.KnownBytes.{Appends};
 ghost use Rattle.std.specs.List.{flat_map, zip};
-ghost use Rattle.graph_commands.specs.Block.{with_block};
+ghost use Rattle.graph_commands.specs.Buffer.{with_buffer};
 ghost use Rattle.graph_commands.specs.OpenerAnswer.{MayOpen};
 ghost use Rattle.graph_unchecked.specs.Trusted.{IsTrustedAt};
 ghost use Rattle.history_commands.specs.IsAncestor.{is_ancestor_text};
@@ -19,7 +19,7 @@ ghost use Rattle.unchecked_questions.specs.Trusting.{MayTellByParts};
 
 use gix_commitgraph::Position;
 use gix_hash_core::ObjectId;
-use graph_commands::block::Block;
+use graph_commands::buffer::Buffer;
 use graph_commands::line::WriteFailed;
 use graph_commands::report::Found;
 use graph_folder::folder::Folder;
@@ -112,136 +112,136 @@ fn describe(found: Option<(Position, StoredCommit)>) -> Option<Found>
 
 /// Adds the lines of what was read.
 pub(crate) fn push_reply<W: Write>(
-    block: &mut Block,
+    buffer: &mut Buffer,
     writer: &mut W,
     reply: Reply,
 ) -> Result<(), WriteFailed>
-    ensures { OnOk result (Appends (with_block (W.contents writer.old) block.old)
-        (with_block (W.contents writer.new) block.new) (reply_text reply)) }
+    ensures { OnOk result (Appends (with_buffer (W.contents writer.old) buffer.old)
+        (with_buffer (W.contents writer.new) buffer.new) (reply_text reply)) }
 {
     match reply {
-        Reply::Found(found) => push_found(block, writer, found),
-        Reply::Told(told) => push_told(block, writer, &told),
-        Reply::Walk(walk) => push_walk(block, writer, &walk),
-        Reply::Compared(compared) => push_compared(block, writer, &compared),
-        Reply::Parents(Some(parents)) => push_parents(block, writer, &parents),
-        Reply::Parents(None) => block.push_text(writer, "unknown 1\n"),
+        Reply::Found(found) => push_found(buffer, writer, found),
+        Reply::Told(told) => push_told(buffer, writer, &told),
+        Reply::Walk(walk) => push_walk(buffer, writer, &walk),
+        Reply::Compared(compared) => push_compared(buffer, writer, &compared),
+        Reply::Parents(Some(parents)) => push_parents(buffer, writer, &parents),
+        Reply::Parents(None) => buffer.push_text(writer, "unknown 1\n"),
     }
 }
 
 /// Adds the line of whether a commit is an ancestor of another.
 fn push_told<W: Write>(
-    block: &mut Block,
+    buffer: &mut Buffer,
     writer: &mut W,
     told: &Between<bool>,
 ) -> Result<(), WriteFailed>
-    ensures { OnOk result (Appends (with_block (W.contents writer.old) block.old)
-        (with_block (W.contents writer.new) block.new)
+    ensures { OnOk result (Appends (with_buffer (W.contents writer.old) buffer.old)
+        (with_buffer (W.contents writer.new) buffer.new)
         (is_ancestor_text (Ok (answer_of told.now)))) }
 {
     match told {
-        Between::FirstMissing => block.push_text(writer, "unknown 1\n"),
-        Between::SecondMissing => block.push_text(writer, "unknown 2\n"),
-        Between::Known(true) => block.push_text(writer, "yes\n"),
-        Between::Known(false) => block.push_text(writer, "no\n"),
+        Between::FirstMissing => buffer.push_text(writer, "unknown 1\n"),
+        Between::SecondMissing => buffer.push_text(writer, "unknown 2\n"),
+        Between::Known(true) => buffer.push_text(writer, "yes\n"),
+        Between::Known(false) => buffer.push_text(writer, "no\n"),
     }
 }
 
 /// Adds the lines of the ids on a walk, or that there is none, or which id is not there.
 fn push_walk<W: Write>(
-    block: &mut Block,
+    buffer: &mut Buffer,
     writer: &mut W,
     walk: &Between<Option<Vec<ObjectId>>>,
 ) -> Result<(), WriteFailed>
-    ensures { OnOk result (Appends (with_block (W.contents writer.old) block.old)
-        (with_block (W.contents writer.new) block.new)
+    ensures { OnOk result (Appends (with_buffer (W.contents writer.old) buffer.old)
+        (with_buffer (W.contents writer.new) buffer.new)
         (walk_text (Ok (listed_walk (answer_of walk.now))))) }
 {
     match walk {
-        Between::FirstMissing => block.push_text(writer, "unknown 1\n"),
-        Between::SecondMissing => block.push_text(writer, "unknown 2\n"),
-        Between::Known(None) => block.push_text(writer, "none\n"),
-        Between::Known(Some(ids)) => push_ids(block, writer, ids),
+        Between::FirstMissing => buffer.push_text(writer, "unknown 1\n"),
+        Between::SecondMissing => buffer.push_text(writer, "unknown 2\n"),
+        Between::Known(None) => buffer.push_text(writer, "none\n"),
+        Between::Known(Some(ids)) => push_ids(buffer, writer, ids),
     }
 }
 
 /// Adds ids, a line for each.
 fn push_ids<W: Write>(
-    block: &mut Block,
+    buffer: &mut Buffer,
     writer: &mut W,
     ids: &[ObjectId],
 ) -> Result<(), WriteFailed>
-    ensures { OnOk result (Appends (with_block (W.contents writer.old) block.old)
-        (with_block (W.contents writer.new) block.new) (flat_map id_line ids.now)) }
+    ensures { OnOk result (Appends (with_buffer (W.contents writer.old) buffer.old)
+        (with_buffer (W.contents writer.new) buffer.new) (flat_map id_line ids.now)) }
 {
     for id in ids {
-        block.push_id(writer, id.as_oid())?;
-        block.push_byte(writer, b'\n')?;
+        buffer.push_id(writer, id.as_oid())?;
+        buffer.push_byte(writer, b'\n')?;
     }
     Ok(())
 }
 
 /// Adds the lines of what commits have in common, or which id is not there.
 fn push_compared<W: Write>(
-    block: &mut Block,
+    buffer: &mut Buffer,
     writer: &mut W,
     compared: &Among<IdComparison>,
 ) -> Result<(), WriteFailed>
-    ensures { OnOk result (Appends (with_block (W.contents writer.old) block.old)
-        (with_block (W.contents writer.new) block.new)
+    ensures { OnOk result (Appends (with_buffer (W.contents writer.old) buffer.old)
+        (with_buffer (W.contents writer.new) buffer.new)
         (told_bases_text (Ok (told_among compared.now)))) }
 {
     match compared {
         Among::Missing(number) => {
-            block.push_text(writer, "unknown ")?;
-            block.push_decimal(writer, *number)?;
-            block.push_byte(writer, b'\n')
+            buffer.push_text(writer, "unknown ")?;
+            buffer.push_decimal(writer, *number)?;
+            buffer.push_byte(writer, b'\n')
         }
         Among::Known(answer) => {
             push_bases(
-                block,
+                buffer,
                 writer,
                 &answer.comparison.bases.positions,
                 &answer.base_ids,
             )?;
-            push_counts(block, writer, &answer.comparison)
+            push_counts(buffer, writer, &answer.comparison)
         }
     }
 }
 
 /// Adds the lines of bases with their ids, or that there is none.
 fn push_bases<W: Write>(
-    block: &mut Block,
+    buffer: &mut Buffer,
     writer: &mut W,
     bases: &[Position],
     ids: &[ObjectId],
 ) -> Result<(), WriteFailed>
-    ensures { OnOk result (Appends (with_block (W.contents writer.old) block.old)
-        (with_block (W.contents writer.new) block.new)
+    ensures { OnOk result (Appends (with_buffer (W.contents writer.old) buffer.old)
+        (with_buffer (W.contents writer.new) buffer.new)
         (lines_or_none bases.now (flat_map line_of_told (zip bases.now ids.now)))) }
 {
     if bases.is_empty() {
-        return block.push_text(writer, "none\n");
+        return buffer.push_text(writer, "none\n");
     }
     for place in 0..bases.len().min(ids.len()) {
-        push_line_of_base(block, writer, bases[place], ids[place].as_oid())?;
+        push_line_of_base(buffer, writer, bases[place], ids[place].as_oid())?;
     }
     Ok(())
 }
 
 /// Adds the line of the parents with these ids.
 fn push_parents<W: Write>(
-    block: &mut Block,
+    buffer: &mut Buffer,
     writer: &mut W,
     parents: &[ObjectId],
 ) -> Result<(), WriteFailed>
-    ensures { OnOk result (Appends (with_block (W.contents writer.old) block.old)
-        (with_block (W.contents writer.new) block.new) (parents_line (Some parents.now))) }
+    ensures { OnOk result (Appends (with_buffer (W.contents writer.old) buffer.old)
+        (with_buffer (W.contents writer.new) buffer.new) (parents_line (Some parents.now))) }
 {
-    block.push_text(writer, "parents")?;
+    buffer.push_text(writer, "parents")?;
     for parent in parents {
-        block.push_byte(writer, b' ')?;
-        block.push_id(writer, parent.as_oid())?;
+        buffer.push_byte(writer, b' ')?;
+        buffer.push_id(writer, parent.as_oid())?;
     }
-    block.push_byte(writer, b'\n')
+    buffer.push_byte(writer, b'\n')
 }

@@ -23,7 +23,7 @@ ghost use Rattle.unchecked_questions.specs.Trusting.{trusted_status, trusted_tex
 
 use crate::by_parts::{ask_by_parts, push_reply};
 use gix_commitgraph::opening::OpenError;
-use graph_commands::block::Block;
+use graph_commands::buffer::Buffer;
 use graph_commands::line::WriteFailed;
 use graph_commands::refusal::Refusal;
 use graph_commands::run::refuse;
@@ -203,15 +203,22 @@ fn answer_all<R: Read, T: Folder, W: Write>(
         × Appends (W.contents writer.old) (W.contents writer.new) (flat_map told_text turns)) }
     ensures tree { T.tree folder.new ≡ T.tree folder.old }
 {
-    let (Ok(mut lines), Ok(mut block)) = (LineReader::new(alloc), Block::new(alloc)) else {
+    let (Ok(mut lines), Ok(mut buffer)) = (LineReader::new(alloc), Buffer::new(alloc)) else {
         return Ok(Some(ReadError::OutOfMemory));
     };
     answer_lines(
-        alloc, &mut lines, reader, folder, path, kept, &mut block, writer,
+        alloc,
+        &mut lines,
+        reader,
+        folder,
+        path,
+        kept,
+        &mut buffer,
+        writer,
     )
 }
 
-/// Answers lines as `answer_all` does, with a reader of lines that has read none, and a block that
+/// Answers lines as `answer_all` does, with a reader of lines that has read none, and a buffer that
 /// has nothing.
 fn answer_lines<R: Read, T: Folder, W: Write>(
     alloc: Global,
@@ -220,11 +227,11 @@ fn answer_lines<R: Read, T: Folder, W: Write>(
     folder: &mut T,
     path: &str,
     kept: Kept,
-    block: &mut Block,
+    buffer: &mut Buffer,
     writer: &mut W,
 ) -> Result<Option<ReadError>, WriteFailed>
     requires lines { lines.old.ahead ≡ [] }
-    requires block { block.old ≡ [] }
+    requires buffer { buffer.old ≡ [] }
     requires kept { IsKeptAt (T.tree folder.old) path.now kept }
     ensures answered { IfOk result (λ failed. (turns : List Told)
         × AreTold (MayOpen (T.tree folder.old) path.now) (T.failure_count folder.old)
@@ -236,7 +243,9 @@ fn answer_lines<R: Read, T: Folder, W: Write>(
 {
     let mut kept = kept;
     for _ in 0..u64::MAX {
-        let next = answer_kept(alloc, lines, reader, folder, path, &mut kept, block, writer)?;
+        let next = answer_kept(
+            alloc, lines, reader, folder, path, &mut kept, buffer, writer,
+        )?;
         match next {
             Next::End => return Ok(None),
             Next::Failed(error) => return Ok(Some(error)),
@@ -255,10 +264,10 @@ fn answer_kept<R: Read, T: Folder, W: Write>(
     folder: &mut T,
     path: &str,
     kept: &mut Kept,
-    block: &mut Block,
+    buffer: &mut Buffer,
     writer: &mut W,
 ) -> Result<Next, WriteFailed>
-    requires block { block.old ≡ [] }
+    requires buffer { buffer.old ≡ [] }
     requires kept { IsKeptAt (T.tree folder.old) path.now kept.old }
     ensures answered { IfOk result (λ next. (left : Option (List ℕ))
         × AreAnswered (MayOpen (T.tree folder.old) path.now) (T.failure_count folder.old)
@@ -266,13 +275,13 @@ fn answer_kept<R: Read, T: Folder, W: Write>(
         (prepend_known lines.old.ahead (R.remaining reader.old)) left
         (W.contents writer.old) (W.contents writer.new)
         × StopsAt left (prepend_known lines.new.ahead (R.remaining reader.new)) next) }
-    ensures block { OnOk result (block.new ≡ []) }
+    ensures buffer { OnOk result (buffer.new ≡ []) }
     ensures kept { IsKeptAt (T.tree folder.old) path.now kept.new }
     ensures tree { T.tree folder.new ≡ T.tree folder.old }
 {
     for _ in 0..u64::MAX {
         if let Kept::Whole(graph) = kept {
-            return answer_over(alloc, graph, lines, reader, block, writer);
+            return answer_over(alloc, graph, lines, reader, buffer, writer);
         }
         let more = match lines.read(reader) {
             Ok(more) => more,
@@ -281,7 +290,7 @@ fn answer_kept<R: Read, T: Folder, W: Write>(
         if !more {
             return Ok(Next::End);
         }
-        if !answer_line(alloc, folder, path, kept, lines.line(), block, writer)? {
+        if !answer_line(alloc, folder, path, kept, lines.line(), buffer, writer)? {
             return Ok(Next::Reload);
         }
     }
@@ -295,10 +304,10 @@ fn answer_line<T: Folder, W: Write>(
     path: &str,
     kept: &mut Kept,
     line: &[u8],
-    block: &mut Block,
+    buffer: &mut Buffer,
     writer: &mut W,
 ) -> Result<bool, WriteFailed>
-    requires block { block.old ≡ [] }
+    requires buffer { buffer.old ≡ [] }
     requires kept { IsKeptAt (T.tree folder.old) path.now kept.old }
     ensures told { IfOk result (λ told. told ≡ true
         → AddsTold (MayTellTrusted (MayOpen (T.tree folder.old) path.now)
@@ -306,23 +315,23 @@ fn answer_line<T: Folder, W: Write>(
         (W.contents writer.old) (W.contents writer.new)) }
     ensures reload { IfOk result (λ told. told ≡ false → Asks line.now Question.Reload
         × (writer.new ≡ writer.old) × (folder.new ≡ folder.old)) }
-    ensures block { OnOk result (block.new ≡ []) }
+    ensures buffer { OnOk result (buffer.new ≡ []) }
     ensures kept { IsKeptAt (T.tree folder.old) path.now kept.new }
     ensures tree { T.tree folder.new ≡ T.tree folder.old }
 {
     match read_question(alloc, line) {
         Ok(Some(Question::Reload)) => Ok(false),
         Ok(Some(question)) => {
-            answer_question(alloc, folder, path, kept, &question, block, writer)?;
+            answer_question(alloc, folder, path, kept, &question, buffer, writer)?;
             Ok(true)
         }
         Ok(None) => {
-            block.push_text(writer, "refused question\n")?;
-            finish(block, writer)
+            buffer.push_text(writer, "refused question\n")?;
+            finish(buffer, writer)
         }
         Err(_) => {
-            block.push_text(writer, "refused walk\n")?;
-            finish(block, writer)
+            buffer.push_text(writer, "refused walk\n")?;
+            finish(buffer, writer)
         }
     }
 }
@@ -360,36 +369,36 @@ fn answer_question<T: Folder, W: Write>(
     path: &str,
     kept: &mut Kept,
     question: &Question,
-    block: &mut Block,
+    buffer: &mut Buffer,
     writer: &mut W,
 ) -> Result<(), WriteFailed>
     requires asks { question.now ≢ Question.Reload }
     requires ids { HasAllIds question.now }
-    requires block { block.old ≡ [] }
+    requires buffer { buffer.old ≡ [] }
     requires kept { IsKeptAt (T.tree folder.old) path.now kept.old }
     ensures told { OnOk result (AddsTold (MayTellAsked (MayOpen (T.tree folder.old) path.now
         (T.failure_count folder.old) (T.failure_count folder.new))
         (T.failure_count folder.old) (T.failure_count folder.new) question.now)
         (W.contents writer.old) (W.contents writer.new)) }
-    ensures block { OnOk result (block.new ≡ []) }
+    ensures buffer { OnOk result (buffer.new ≡ []) }
     ensures kept { IsKeptAt (T.tree folder.old) path.now kept.new }
     ensures tree { T.tree folder.new ≡ T.tree folder.old }
 {
     match kept {
         Kept::Parts(parts) => match ask_by_parts(folder, parts, question) {
             Ok(reply) => {
-                push_reply(block, writer, reply)?;
-                finish(block, writer)?;
+                push_reply(buffer, writer, reply)?;
+                finish(buffer, writer)?;
                 Ok(())
             }
             Err(Unread::Device) => write_refused(writer, &Refusal::Open(OpenError::Device)),
             Err(Unread::OutOfMemory) => write_refused(writer, &Refusal::Walk),
             Err(Unread::NotByParts) => {
-                answer_checked(alloc, folder, path, kept, question, block, writer)
+                answer_checked(alloc, folder, path, kept, question, buffer, writer)
             }
         },
-        Kept::Whole(graph) => answer_whole(alloc, graph, question, block, writer),
-        Kept::Nothing => answer_checked(alloc, folder, path, kept, question, block, writer),
+        Kept::Whole(graph) => answer_whole(alloc, graph, question, buffer, writer),
+        Kept::Nothing => answer_checked(alloc, folder, path, kept, question, buffer, writer),
     }
 }
 
@@ -401,18 +410,18 @@ fn answer_checked<T: Folder, W: Write>(
     path: &str,
     kept: &mut Kept,
     question: &Question,
-    block: &mut Block,
+    buffer: &mut Buffer,
     writer: &mut W,
 ) -> Result<(), WriteFailed>
     requires asks { question.now ≢ Question.Reload }
     requires ids { HasAllIds question.now }
-    requires block { block.old ≡ [] }
+    requires buffer { buffer.old ≡ [] }
     requires kept { IsKeptAt (T.tree folder.old) path.now kept.old }
     ensures told { OnOk result (AddsTold (MayTellAsked (MayOpen (T.tree folder.old) path.now
         (T.failure_count folder.old) (T.failure_count folder.new))
         (T.failure_count folder.old) (T.failure_count folder.new) question.now)
         (W.contents writer.old) (W.contents writer.new)) }
-    ensures block { OnOk result (block.new ≡ []) }
+    ensures buffer { OnOk result (buffer.new ≡ []) }
     ensures kept { IsKeptAt (T.tree folder.old) path.now kept.new }
     ensures tree { T.tree folder.new ≡ T.tree folder.old }
 {
@@ -420,7 +429,7 @@ fn answer_checked<T: Folder, W: Write>(
         Ok(whole) => whole,
         Err(refusal) => return write_refused(writer, &refusal),
     };
-    answer_whole(alloc, &whole.graph, question, block, writer)?;
+    answer_whole(alloc, &whole.graph, question, buffer, writer)?;
     *kept = whole.keep();
     Ok(())
 }
@@ -430,19 +439,19 @@ fn answer_whole<W: Write>(
     alloc: Global,
     graph: &CheckedGraph,
     question: &Question,
-    block: &mut Block,
+    buffer: &mut Buffer,
     writer: &mut W,
 ) -> Result<(), WriteFailed>
     requires asks { question.now ≢ Question.Reload }
     requires ids { HasAllIds question.now }
-    requires block { block.old ≡ [] }
+    requires buffer { buffer.old ≡ [] }
     ensures told { OnOk result (AddsTold (TellsOfTaken (Ok graph.now.layers) question.now)
         (W.contents writer.old) (W.contents writer.new)) }
-    ensures block { OnOk result (block.new ≡ []) }
+    ensures buffer { OnOk result (buffer.new ≡ []) }
 {
     let graph = graph.as_checked();
     let mut teller = Teller::new(alloc, &graph);
-    teller.tell(question, block, writer)?;
-    finish(block, writer)?;
+    teller.tell(question, buffer, writer)?;
+    finish(buffer, writer)?;
     Ok(())
 }

@@ -2,7 +2,7 @@
 
 Beside its plain run, each case is run with output that takes so many bytes, for each number that is too few; with input that
 comes byte by byte; and with input whose reading fails. Of some tables there are the plain runs alone. Last, long answers, which are
-written in blocks, and graphs of every size up to ten and of more commits than are looked at in one go.
+written through a buffer, and graphs of every size up to ten and of more commits than are looked at in one go.
 """
 
 import os
@@ -276,7 +276,7 @@ def long_files():
 
 
 def check_long(results, place):
-    """Long answers are written in two blocks, or a block and a line, either of which may fail."""
+    """Long answers take two writes of a buffer, or one and that of a line, either of which may fail."""
     ids = [(big_endian(number, 4) + bytes(16)).hex() for number in range(1, LONG + 1)]
     ends = ids[-1], ids[0]
     listed = "layer sha1 bases 0 commits 1\n0 %s %s 1 7 %s\n" % ("1" * 40, "9" * 40, ",".join(["0"] * 40_002))

@@ -1,4 +1,4 @@
--- Two lines are written; where there is no memory for a block, that is told.
+-- Two lines are written; where there is no memory for a buffer, that is told.
 use Rattle.std.proofs.Common.{refl}
 use Rattle.std.specs.Prelude.{Some, None}
 use Rattle.graph_commands.specs.Ancestor.{MayHaveWalk, ancestor_text, ancestor_status}

@@ -4,10 +4,10 @@ use Rattle.std.specs.Prelude.{codes}
 use Rattle.std.specs.List.{flat_map}
 use Rattle.std.specs.Io.KnownBytes.{Appends}
 use Rattle.graph_commands.specs.Ancestor.{step_text}
-use Rattle.graph_commands.specs.Block.{with_block}
+use Rattle.graph_commands.specs.Buffer.{with_buffer}
 use Rattle.graph_commands.proofs.ancestor.write_walk.Given as goal
 
 abbrev pub invariant-loop-position : goal.invariant-loop-position
 invariant-loop-position g l =
-    Appends (with_block (g.W.Write.contents l.fn.writer) l.fn.block) (with_block (g.W.Write.contents l.writer) l.block)
+    Appends (with_buffer (g.W.Write.contents l.fn.writer) l.fn.buffer) (with_buffer (g.W.Write.contents l.writer) l.buffer)
     (codes "walk" ++ flat_map step_text (take l.position-index l.walk))

@@ -1,5 +1,5 @@
 use Rattle.std.proofs.Common.{◌≡◌, ◌+◌, length, decimal, arith}
-use Rattle.graph_commands.proofs.BlockLemmas.{take_written}
+use Rattle.graph_commands.proofs.BufferLemmas.{take_written}
 use Rattle.graph_commands.proofs.bytes.put_decimal.Goals as goal
 
 pub returns-clause-digits : goal.returns-clause-digits

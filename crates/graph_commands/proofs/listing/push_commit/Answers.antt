@@ -1,7 +1,7 @@
 -- What is added is the parts of the line, one after another.
 use Rattle.std.proofs.Common.{append_assoc}
 use Rattle.std.proofs.KnownBytes.{Appends-trans}
-use Rattle.graph_commands.proofs.BlockLemmas.{appends_last}
+use Rattle.graph_commands.proofs.BufferLemmas.{appends_last}
 use Rattle.graph_commands.proofs.listing.push_commit.Goals as goal
 
 pub returns : goal.returns

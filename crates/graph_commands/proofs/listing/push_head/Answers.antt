@@ -5,7 +5,7 @@ use Rattle.std.specs.Io.KnownBytes.{Appends}
 use Rattle.std.proofs.KnownBytes.{Appends-trans}
 use Rattle.graph_commands.specs.Listing.{kind_text}
 use Rattle.graph_commands.specs.Text.{newline}
-use Rattle.graph_commands.proofs.BlockLemmas.{appends_last}
+use Rattle.graph_commands.proofs.BufferLemmas.{appends_last}
 use Rattle.graph_commands.proofs.listing.push_head.Goals as goal
 
 appends_line : {T E : Type 0} (result : Result T E) (a b c d e f : Option (List ℕ))

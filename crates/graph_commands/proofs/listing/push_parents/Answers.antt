@@ -10,7 +10,7 @@ use Rattle.graph_format.specs.declared.Position.{Position}
 use Rattle.graph_format.specs.declared.parents.ParentError.{ParentError}
 use Rattle.graph_layer.proofs.ParentItemLemmas.{parents-yield}
 use Rattle.graph_commands.specs.Listing.{item_text, parents_text}
-use Rattle.graph_commands.proofs.BlockLemmas.{has_some, has_some-push, appends_item}
+use Rattle.graph_commands.proofs.BufferLemmas.{has_some, has_some-push, appends_item}
 use Rattle.graph_commands.proofs.listing.push_parents.Goals as goal
 
 -- the text of some items is those items joined

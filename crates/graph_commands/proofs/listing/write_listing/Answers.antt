@@ -11,7 +11,7 @@ use Rattle.graph_commands.specs.Listing.{layer_line, base_line, commit_lines}
 use Rattle.graph_commands.specs.PositionLines.{position_line}
 use Rattle.graph_commands.proofs.PlaceLemmas.{place_lines-all}
 use Rattle.graph_commands.proofs.Appended.{appends_line}
-use Rattle.graph_commands.proofs.BlockLemmas.{appends_written}
+use Rattle.graph_commands.proofs.BufferLemmas.{appends_written}
 use Rattle.graph_commands.proofs.listing.write_listing.Goals as goal
 
 pub loop-base-preserved : goal.loop-base-preserved
@@ -38,5 +38,5 @@ returns g c =
     (map layer_and_position c.loop-commit.yielded)
     ≡ layer_line layer ++ (flat_map base_line layer.bases ++ commit_lines layer) =
     rw lines (append_assoc (layer_line layer) (flat_map base_line layer.bases) (commit_lines layer)) in
-    appends_written c.write_out.result _ _ _ c.args.block.now _ _ c.requires (subst (Appends _ _) all c.loop-commit.invariant)
+    appends_written c.write_out.result _ _ _ c.args.buffer.now _ _ c.requires (subst (Appends _ _) all c.loop-commit.invariant)
     c.write_out.ensures.written

@@ -1,4 +1,4 @@
--- What was found is told; where there is no memory for a block, that is.
+-- What was found is told; where there is no memory for a buffer, that is.
 use Rattle.std.proofs.Common.{◌≡◌, ℕ, List, [], ap, refl, subst, sym}
 use Rattle.std.proofs.KnownBytes.{Appends-trans}
 use Rattle.std.specs.Io.KnownBytes.{Appends}

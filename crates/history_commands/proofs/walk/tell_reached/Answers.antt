@@ -1,4 +1,4 @@
--- The lines are those of the ids on the walk; where there is no memory for a block, that is told.
+-- The lines are those of the ids on the walk; where there is no memory for a buffer, that is told.
 use Rattle.std.proofs.Common.{ℕ, List, Some, None, refl, subst}
 use Rattle.std.specs.Io.KnownBytes.{Appends}
 use Rattle.graph_commands.proofs.ToldLemmas.{told, told_at, wanted}

@@ -27,7 +27,7 @@ loop-init g c =
         refl,
       );
       options = c.requires.options;
-      block = c.requires.block;
+      buffer = c.requires.buffer;
       tree = refl;
     }
 
@@ -82,6 +82,6 @@ loop-preserved g c =
         omega (arith, before.2, c.saturating_add-checked.ensures),
       );
       options = c.reload.ensures.options;
-      block = c.in_ok-next.ensures.block;
+      buffer = c.in_ok-next.ensures.buffer;
       tree = c.reload.ensures.tree ∙ c.loop.invariant.tree;
     }

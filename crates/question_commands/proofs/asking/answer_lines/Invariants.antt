@@ -15,6 +15,6 @@ invariant-loop g l = record {
       (g.W.Write.contents l.fn.writer) (g.W.Write.contents l.writer) checked
       × (l.checked ≡ min checked (2 ^ 64 - 1));
   options : l.graph.options ≡ plain_options;
-  block : l.block ≡ [];
+  buffer : l.buffer ≡ [];
   tree : g.T.Folder.tree l.folder ≡ g.T.Folder.tree l.fn.folder;
 }

@@ -9,7 +9,7 @@ use Rattle.question_commands.proofs.asking.answer_over.Goals as goal
 pub loop-init : goal.loop-init
 loop-init g c = record {
   answered = over_none c.args.graph.now.layers _ _;
-  block = c.requires;
+  buffer = c.requires;
   teller = search rules;
 }
 
@@ -35,7 +35,7 @@ loop-preserved g c =
     record {
       answered = over_more c.args.graph.now.layers _ _ _ _ _ _ c.read.new.self.line told.0 c.loop.invariant.answered takes may
           told.2;
-      block = c.in_ok-answer.ensures.block;
+      buffer = c.in_ok-answer.ensures.buffer;
       teller = c.answer.ensures.teller ∙ c.loop.invariant.teller;
     }
 

@@ -1,7 +1,7 @@
 -- What is added is the parts of the lines, one after another.
 use Rattle.std.proofs.Common.{append_assoc}
 use Rattle.std.proofs.KnownBytes.{Appends-trans}
-use Rattle.graph_commands.proofs.BlockLemmas.{appends_last}
+use Rattle.graph_commands.proofs.BufferLemmas.{appends_last}
 use Rattle.question_commands.proofs.telling.push_counts.Goals as goal
 
 pub returns : goal.returns

@@ -5,7 +5,7 @@ use Rattle.std.specs.List.{flat_map}
 use Rattle.std.specs.Io.KnownBytes.{Appends}
 use Rattle.gix_commitgraph.specs.Graph.{total}
 use Rattle.graph_format.specs.declared.Position.{Position}
-use Rattle.graph_commands.specs.Block.{with_block}
+use Rattle.graph_commands.specs.Buffer.{with_buffer}
 use Rattle.history_commands.specs.Walk.{id_in}
 use Rattle.question_commands.specs.Replies.{parent_ids_at, parent_text}
 use Rattle.question_commands.proofs.telling.push_parents.Given as goal
@@ -16,6 +16,6 @@ invariant-loop-parent g l = record {
   added : (ids : List (List ℕ))
       × (parent_ids_at l.graph.layers l.fn.pos.0
       ≡ ids ++ map (id_in l.graph.layers) (map (λ (q : Position). q.0) l.parent-iterator))
-      × Appends (with_block (g.W.Write.contents l.fn.writer) l.fn.block) (with_block (g.W.Write.contents l.writer) l.block)
+      × Appends (with_buffer (g.W.Write.contents l.fn.writer) l.fn.buffer) (with_buffer (g.W.Write.contents l.writer) l.buffer)
       (codes "parents" ++ flat_map parent_text ids);
 }

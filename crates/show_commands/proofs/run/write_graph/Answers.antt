@@ -1,7 +1,7 @@
 use Rattle.std.proofs.Common.{◌≡◌, ℕ, take, ap, length, refl, arith}
 use Rattle.std.proofs.lemmas.List.{take_all}
 use Rattle.graph_format.specs.Layer.{Layer}
-use Rattle.graph_commands.proofs.BlockLemmas.{appends_last}
+use Rattle.graph_commands.proofs.BufferLemmas.{appends_last}
 use Rattle.show_commands.specs.LayerLines.{layer_lines}
 use Rattle.show_commands.specs.Show.{graph_line}
 use Rattle.show_commands.proofs.LinesLemmas.{next_text}

@@ -12,7 +12,7 @@ pub loop-init : goal.loop-init
 loop-init g c = record {
   answered = answered_none (MayOpen (g.T.Folder.tree c.args.folder.now) c.args.path.now) _ _ _;
   kept = c.requires.kept;
-  block = c.requires.block;
+  buffer = c.requires.buffer;
   tree = refl;
 }
 
@@ -47,7 +47,7 @@ loop-preserved g c =
       answered = answered_more opens _ _ _ _ _ _ _ _ _ c.loop.invariant.answered
           (answered_line opens _ _ _ _ _ _ c.read.new.self.line takes told);
       kept = rw c.loop.invariant.tree at c.answer_line.ensures.kept;
-      block = c.in_ok-answer_line.ensures.block;
+      buffer = c.in_ok-answer_line.ensures.buffer;
       tree = c.answer_line.ensures.tree ∙ c.loop.invariant.tree;
     }
 

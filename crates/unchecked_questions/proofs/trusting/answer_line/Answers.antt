@@ -21,11 +21,11 @@ returns-in_ok-answer_question-in-Ok-Some-clause-told g c = λ yes.
 pub returns-in_ok-push_text-in-Ok-None-clause-told : goal.returns-in_ok-push_text-in-Ok-None-clause-told
 returns-in_ok-push_text-in-Ok-None-clause-told g c =
     let nothing = rw c.in-Ok-None.field-0-is at c.in-Ok-None.ensures.nothing in
-    finishes c.finish.result _ refused_line c.args.block.now _ _ _ (inl (nothing refl, refl, refl)) c.requires.block
+    finishes c.finish.result _ refused_line c.args.buffer.now _ _ _ (inl (nothing refl, refl, refl)) c.requires.buffer
     c.in_ok-push_text-in-Ok-None.ensures c.finish.ensures.written
 
 pub returns-in_ok-push_text-in-Err-clause-told : goal.returns-in_ok-push_text-in-Err-clause-told
 returns-in_ok-push_text-in-Err-clause-told g c =
-    finishes c.finish-in-Err.result _ (opened_line (Err Walk)) c.args.block.now _ _ _
-    (inr (inl (c.in-Err.ensures.memory, refl, refl))) c.requires.block c.in_ok-push_text-in-Err.ensures
+    finishes c.finish-in-Err.result _ (opened_line (Err Walk)) c.args.buffer.now _ _ _
+    (inr (inl (c.in-Err.ensures.memory, refl, refl))) c.requires.buffer c.in_ok-push_text-in-Err.ensures
     c.finish-in-Err.ensures.written

@@ -21,7 +21,7 @@ loop-init g c =
       answered = subst (λ (left : Option (List ℕ)). AreAnswered opens failures failures input left old old) (sym same)
           (answered_none opens failures input old);
       kept = c.requires.kept;
-      block = c.requires.block;
+      buffer = c.requires.buffer;
       tree = refl;
     }
 
@@ -53,7 +53,7 @@ loop-preserved g c =
           (answered_more opens _ _ _ _ _ over.0 _ _ _ c.loop.invariant.answered over.1)
           (answered_anew opens _ _ asks.0 over.0 _ _ _ asks.1 asks.2 told);
       kept = rw tree at c.reload.ensures.kept;
-      block = c.in_ok-next.ensures.block;
+      buffer = c.in_ok-next.ensures.buffer;
       tree = c.reload.ensures.tree ∙ tree;
     }
 

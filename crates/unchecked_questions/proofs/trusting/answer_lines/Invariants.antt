@@ -13,6 +13,6 @@ invariant-loop g l = record {
       (prepend_known l.lines.ahead (g.R.Read.remaining l.reader))
       (g.W.Write.contents l.fn.writer) (g.W.Write.contents l.writer);
   kept : IsKeptAt (g.T.Folder.tree l.fn.folder) l.path l.kept;
-  block : l.block ≡ [];
+  buffer : l.buffer ≡ [];
   tree : g.T.Folder.tree l.folder ≡ g.T.Folder.tree l.fn.folder;
 }

@@ -23,8 +23,8 @@ returns-in_err-finish-in-Ok-clause-kept g c =
 pub returns-in_ok-finish-in-Ok-clause-told : goal.returns-in_ok-finish-in-Ok-clause-told
 returns-in_ok-finish-in-Ok-clause-told g c =
     let of = rw c.in-Parts.is at c.requires.kept in
-    adds_told _ (reply_text c.in-Ok.reply) c.args.block.now _ _ _ (inl (c.in-Ok.ensures.told c.args.path.now of))
-    c.requires.block c.in_ok-push_reply-in-Ok.ensures c.in_ok-finish-in-Ok.ensures.written
+    adds_told _ (reply_text c.in-Ok.reply) c.args.buffer.now _ _ _ (inl (c.in-Ok.ensures.told c.args.path.now of))
+    c.requires.buffer c.in_ok-push_reply-in-Ok.ensures c.in_ok-finish-in-Ok.ensures.written
 
 pub returns-in_ok-finish-in-Ok-clause-kept : goal.returns-in_ok-finish-in-Ok-clause-kept
 returns-in_ok-finish-in-Ok-clause-kept g c =

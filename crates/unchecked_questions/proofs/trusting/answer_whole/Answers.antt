@@ -16,4 +16,4 @@ returns-clause-told g c =
     c.new-teller.ensures ∙ ap (λ (v : CheckedLayers). v.layers) c.as_checked-graph.ensures.same in
     let tells =
     subst (λ (those : List Layer). TellsOfIds those (question_name asked) (question_ids asked) added.0) stand added.1 in
-    adds_told _ added.0 c.args.block.now _ _ _ tells c.requires.block added.2 c.in_ok-finish.ensures.written
+    adds_told _ added.0 c.args.buffer.now _ _ _ tells c.requires.buffer added.2 c.in_ok-finish.ensures.written

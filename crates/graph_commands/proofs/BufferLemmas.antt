@@ -1,7 +1,7 @@
--- Digits in bytes, and bytes in a block.
+-- Digits in bytes, and bytes in a buffer.
 use Rattle.std.proofs.Common.{◌≡◌, ℕ, ◌+◌, Bool, true, false, List, [], ◌∷◌, ◌++◌, length, take, drop, Result, Ok, Err, refl, ap}
 use Rattle.std.proofs.Common.{sym, subst, ◌∙◌, append_assoc, append-nil}
-use Rattle.graph_commands.specs.Block.{with_block}
+use Rattle.graph_commands.specs.Buffer.{with_buffer}
 use Rattle.std.specs.Prelude.{Option, Some, None, OnOk, if◌then◌else◌}
 use Rattle.std.specs.List.{join_by}
 use Rattle.std.proofs.lemmas.List.Concat.{flat_map-append}
@@ -56,9 +56,9 @@ appends_item text comma items item any a b c d same before separator added =
     ∙ join_by-push text comma items item in
     subst (Appends a d) joined (Appends-trans a b d _ _ before (Appends-trans b c d _ _ separator added))
 
--- what was added to a block with no bytes is written with the block
+-- what was added to a buffer with no bytes is written with the buffer
 pub appends_written : {T E : Type 0} (result : Result T E) (a b c : Option (List ℕ)) (first last all : List ℕ)
-    → first ≡ [] → Appends (with_block a first) (with_block b last) all → OnOk result (Appends b c last)
+    → first ≡ [] → Appends (with_buffer a first) (with_buffer b last) all → OnOk result (Appends b c last)
     → OnOk result (Appends a c all)
 appends_written (Ok value) None b c first last all empty added written = tt
 appends_written (Ok value) (Some old) None c first last all empty added written = absurd added
