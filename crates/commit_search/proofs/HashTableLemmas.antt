@@ -27,7 +27,7 @@ module _ (old new : List ℕ) (n p : ℕ) (puts : Puts old new n p) where
   still_taken : (m k : ℕ) → looked_at old m k ≢ 0 → looked_at new m k ≢ 0
   still_taken m k taken none = taken (sym (looked_kept m k taken) ∙ none)
 
-  stands_kept : (m q : ℕ) → StandsAt old m q → StandsAt new m q
+  pub stands_kept : (m q : ℕ) → StandsAt old m q → StandsAt new m q
   stands_kept m q s = record {
     step = s.step;
     few = s.few;
@@ -35,7 +35,7 @@ module _ (old new : List ℕ) (n p : ℕ) (puts : Puts old new n p) where
     before = λ k lt. still_taken m k (s.before k lt);
   }
 
-  stands_new : StandsAt new n p
+  pub stands_new : StandsAt new n p
   stands_new = record {
     step = puts.step;
     few = puts.few;
@@ -45,7 +45,7 @@ module _ (old new : List ℕ) (n p : ℕ) (puts : Puts old new n p) where
     before = λ k lt. still_taken n k (puts.before k lt);
   }
 
-  within_new : (i most : ℕ) → get_or old i 0 ≤ most → p < most + 1 → get_or new i 0 ≤ most + 1
+  pub within_new : (i most : ℕ) → get_or old i 0 ≤ most → p < most + 1 → get_or new i 0 ≤ most + 1
   within_new i most le lt =
       ⊎_elim
       (λ (none : get_or old i 0 ≡ 0).

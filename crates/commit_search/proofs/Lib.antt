@@ -3,6 +3,7 @@ pub mod EdgeListLemmas
 pub mod MarkLemmas
 pub mod QueueLemmas
 pub mod HashTableLemmas
+pub mod PlaceLemmas
 pub mod KeptLemmas
 pub mod ListLemmas
 pub mod SearchLemmas

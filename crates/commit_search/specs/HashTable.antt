@@ -1,8 +1,8 @@
--- A hash table of numbers that are marked: a slot has 0, or one more than the place of a number among them. For private contracts
+-- A hash table of numbers in an order: a slot has 0, or one more than the place of a number among them. For private contracts
 -- alone.
 use Rattle.std.specs.Prelude.{◌≡◌, ◌≢◌, ℕ, ◌+◌, ◌-◌, ◌^◌, ◌<◌, ◌≤◌, List, length, slice_index_or, slice_set, bit_and}
 use Rattle.commit_search.specs.Marks.{Marked, IsMarked, AreBits, number_in}
-use Rattle.commit_search.specs.declared.few.TheConstants.{STEPS}
+use Rattle.commit_search.specs.declared.hash_table.TheConstants.{STEPS}
 
 -- the slot of a table of so many, a power of two, in which n is looked for after so many steps
 abbrev pub slot_in : ℕ → ℕ → ℕ → ℕ
@@ -18,6 +18,12 @@ pub record StandsAt (table : List ℕ) (n p : ℕ) : Type 0 where
   pub few : step < STEPS
   pub here : looked_at table n step ≡ p + 1
   pub before : (k : ℕ) → k < step → looked_at table n k ≢ 0
+
+-- The table has the place of each number of a list, and no other places.
+pub record AreListed (table numbers : List ℕ) : Type 0 where
+  pub few : length table < 2 ^ 32
+  pub within : (i : ℕ) → slice_index_or table i 0 ≤ length numbers
+  pub stand : (p : ℕ) → p < length numbers → StandsAt table (slice_index_or numbers p 0) p
 
 -- The table has the place of each number that is marked, and no other places.
 pub record AreFew (table : List ℕ) (marked : List Marked) : Type 0 where

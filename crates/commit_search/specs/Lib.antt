@@ -4,6 +4,7 @@ pub mod EdgeLists
 pub mod Source
 pub mod WalkAnswer
 pub mod Marks
+pub mod Places
 pub mod HashTable
 pub mod Queue
 pub mod BreadthFirst

@@ -1,12 +1,12 @@
 //! Marks of numbers of which few are marked, in a hash table, and in bits once they are many.
 
 ghost use Rattle.std.specs.Prelude.{◌≡◌, ◌↔◌, ◌*◌, ◌^◌, ◌<◌, ◌≤◌, ℕ, IfNone, IfOk, IfSome, IsTrue};
-ghost use Rattle.std.specs.Prelude.{true, false, length, slice_index_or};
+ghost use Rattle.std.specs.Prelude.{true, length, slice_index_or};
 ghost use Rattle.commit_search.specs.Marks.{IsMarked, AreBits, number_in};
-ghost use Rattle.commit_search.specs.HashTable.{slot_in, looked_at, AreFew, AreHeld, Puts};
-ghost use Rattle.commit_search.specs.declared.few.TheConstants.{STEPS};
+ghost use Rattle.commit_search.specs.HashTable.{AreFew, AreHeld};
 
 use crate::bits::{is_set, set_bit};
+use crate::hash_table::{STEPS, looked_at, put};
 use crate::marks::{Marked, Marks};
 use std::alloc::{AllocError, Global};
 use std::marker::Model;
@@ -20,9 +20,6 @@ const GROWTH: usize = 4;
 /// A table has at most a slot for so many numbers: a bit for each would take less than twice its
 /// memory.
 const SHARE: usize = 64;
-
-/// In how many slots a number may stand: in that of its last bits, or in one of those after it.
-const STEPS: usize = 64;
 
 /// Marks that take memory for the numbers that are marked, and none for the others: a table of 16
 /// KiB at first, and then up to 40 bytes for each. Where a larger table would not be much less than
@@ -122,25 +119,6 @@ impl Marks for FewMarks {
     }
 }
 
-/// The slot of a table of so many in which a number is looked for after so many steps.
-fn slot_of(number: u32, step: usize, slots: usize) -> usize
-    requires some { 0 < slots }
-    requires step { step < STEPS }
-    ensures slot { result ≡ slot_in slots number step }
-    ensures within { result < slots }
-{
-    (number as usize + step) & (slots - 1)
-}
-
-/// What stands in that slot.
-fn looked_at(table: &Vec<u32>, number: u32, step: usize) -> u32
-    requires some { 0 < length table.now.items }
-    requires step { step < STEPS }
-    ensures { result ≡ looked_at table.now.items number step }
-{
-    table[slot_of(number, step, table.len())]
-}
-
 /// The number at a place.
 fn number_at(marked: &Vec<Marked>, place: usize) -> u32
     requires { place < length marked.now.items }
@@ -175,24 +153,6 @@ fn found(table: &Vec<u32>, marked: &Vec<Marked>, number: u32) -> Option<usize>
         }
     }
     None
-}
-
-/// Puts the place of a number into the first slot of a table that is empty, of those in which it
-/// may stand.
-fn put(table: &mut Vec<u32>, number: u32, place: u32) -> bool
-    requires some { 0 < length table.old.items }
-    requires place { place < 2 ^ 31 }
-    ensures done { result ≡ true → Puts table.old.items table.new.items number place }
-    ensures full { result ≡ false → table.new.items ≡ table.old.items }
-{
-    for step in 0..STEPS {
-        if looked_at(table, number, step) == 0 {
-            let slot = slot_of(number, step, table.len());
-            table[slot] = place + 1;
-            return true;
-        }
-    }
-    false
 }
 
 /// Puts the places of all numbers that are marked into an empty table, unless one of them finds no

@@ -16,9 +16,11 @@ mod any;
 mod bits;
 pub mod edges;
 mod few;
+mod hash_table;
 pub mod law;
 mod lists;
 mod marks;
+mod places;
 mod search;
 mod source;
 mod walk;
@@ -29,6 +31,7 @@ pub use bits::BitMarks;
 pub use few::FewMarks;
 use graph_format::Position;
 pub use marks::{Marked, Marks};
+pub use places::Places;
 pub use source::CommitSource;
 
 /// The answer of a query for a walk from one commit to another.

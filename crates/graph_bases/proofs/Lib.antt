@@ -1,6 +1,5 @@
 pub mod ReachLemmas
 pub mod TrailLemmas
-pub mod PlaceLemmas
 pub mod SheetLemmas
 pub mod PaintLemmas
 pub mod CoatLemmas

@@ -8,10 +8,10 @@ use Rattle.std.proofs.lemmas.List.Elements.{All-contains, Contains-append_left, 
 use Rattle.std.proofs.lemmas.List.Elements.{Contains-push_cases}
 use Rattle.std.proofs.lemmas.List.FromFn.{length-map-range_with_len, get_or-map-range_with_len, fill_by_all}
 use Rattle.std.specs.List.{range_with_len}
-use Rattle.graph_bases.specs.Places.{IsListed}
+use Rattle.commit_search.specs.Places.{IsListed}
+use Rattle.commit_search.proofs.PlaceLemmas.{place_cases, old_place, new_place}
 use Rattle.graph_bases.specs.Sheet.{bare, coat_at, AreChanged, kept_coat, AreKeptCoats, sheet_of}
 use Rattle.graph_bases.specs.declared.paint.Coat.{Coat}
-use Rattle.graph_bases.proofs.PlaceLemmas.{place_cases, old_place, new_place}
 
 -- Which coats were changed.
 

@@ -12,7 +12,6 @@ pub mod law;
 mod paint;
 mod painting;
 mod passing;
-mod places;
 mod sheet;
 mod tables;
 mod trails;

@@ -3,8 +3,8 @@
 ghost use Rattle.std.specs.Prelude.{◌≡◌};
 
 use crate::paint::{BARE, Coat};
-use crate::places::Places;
 use crate::sheet::CoatTable;
+use commit_search::Places;
 use std::alloc::{AllocError, Global};
 use std::marker::Model;
 

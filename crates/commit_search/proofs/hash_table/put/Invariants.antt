@@ -1,6 +1,6 @@
 use Rattle.std.proofs.Common.{◌≡◌, ◌≢◌, ◌<◌, ℕ}
 use Rattle.commit_search.specs.HashTable.{looked_at}
-use Rattle.commit_search.proofs.few.put.Given as goal
+use Rattle.commit_search.proofs.hash_table.put.Given as goal
 
 -- no slot was empty so far
 abbrev pub invariant-loop-step : goal.invariant-loop-step
