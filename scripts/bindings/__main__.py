@@ -262,6 +262,7 @@ def refused_and_shared(name, compiler, archive, scratch, graphs):
             title = f"{name}, {kind}, {len(layers)} layers"
             expect(f"{title}: each allocation is refused in turn", calls.pop("reading", None) == "0", done)
             expect(f"{title}: bytes that are no layer are not copied", calls.pop("open_wrong", None) == "0", done)
+            expect(f"{title}: commits with a null id are refused before any memory is asked for", calls.pop("write_null", None) == "0", done)
             expect(f"{title}: each call that allocates is refused", calls and all(int(n) > 0 for n in calls.values()), done)
             expect(f"{title}: many pairs are searched with one memory", calls.get("one_pair") == calls.get("three_pairs"), done)
         apart, alike = (run(program, "check", "-", *real.fronted(scratch / compiler, kind, it)) for it in (b"\x11\x22", b"\x11\x11"))

@@ -247,7 +247,7 @@ static outcome write_on(void) {
     return writing(graph, &one, 1);
 }
 
-/* Commits of which one is refused: want of memory is told before that, since all are copied first. */
+/* Commits of which one is refused: that is told before any memory is asked for. */
 static outcome write_null(void) {
     static const uint8_t null[32];
     cg_new_commit two[2] = { all_commits[0], all_commits[0] };
