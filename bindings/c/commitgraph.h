@@ -609,10 +609,10 @@ typedef struct cg_write_error { uint32_t code, position; uint64_t commit, other,
 
 /* Makes the file of a layer with these commits, in any order: on top of a checked graph, whose layers are then those below, or, with
  * CG_CLOSED, the only layer. It is what Git writes of them, without changed-path filters: with corrected dates where all layers below
- * have them, as where there are none. Each parent has to be one of the commits, or in the graph. Commits and graph are read
- * where they are, and stay as they are. On CG_OK *out has the bytes of the file, which are the caller's to free; else *out is left as it was. What *out
- * was before is not freed: let it be CG_NO_BYTES. The file's checksum, by which the file of a chain is named graph-X.graph, is its
- * last cg_id_len bytes.
+ * have them, as where there are none. Each parent has to be one of the commits, or in the graph. Commits and graph are read where
+ * they are, and stay as they are. On CG_OK *out has the bytes of the file, which are the caller's to free; else *out is left as it
+ * was. What *out was before is not freed: let it be CG_NO_BYTES. The file's checksum, by which the file of a chain is named
+ * graph-X.graph, is its last cg_id_len bytes.
  *
  * The layer is made once, in this call, whose memory is some 70 bytes a commit besides the file, and 16 for each commit of the graph
  * below; the bytes wait in *out. */
