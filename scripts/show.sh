@@ -3,18 +3,18 @@
 # runs nothing.
 
 # Shows the commit-graph that is there, also where it is refused: `line` is the refusal then. Where it is another one meanwhile,
-# all is asked once more, and nothing is written until then.
+# or was for a moment, so that its ids could not be read, all is asked once more, and nothing is written until then.
 show_graph() {
     rewrite=keep
-    for _ in 1 2 3; do
+    for try in 1 2 3; do
         find_graph
         stamp=$(graph_stamp)
         ask_program
         case $quiet,$held,$status in ,?*,[01]) ;; *) return 0 ;; esac
-        shown=$(with_files 2>/dev/null) missing=''
+        shown=$(with_files 2>/dev/null) missing='' unread=''
         [ "$status" -ne 0 ] || find_coverage
         find_graph
-        if [ "$stamp" = "$(graph_stamp)" ]; then
+        if [ "$stamp" = "$(graph_stamp)" ] && { [ -z "$unread" ] || [ "$try" = 3 ]; }; then
             write_text "$shown"
             [ -z "$missing" ] || tell_coverage
             return
@@ -53,7 +53,7 @@ find_coverage() {
     if ! list_reachable >"$scratch/reachable"; then
         line='the commits of this repository could not be listed' status=128
     elif ! list_stored >"$scratch/stored" || ! compare_ids; then
-        line='the ids could not be compared' status=128 missing=''
+        line='the ids could not be compared' status=128 missing='' unread=yes
     else
         return 0
     fi
