@@ -1,3 +1,4 @@
+pub mod FindingLemmas
 pub mod RefusalLemmas
 pub mod SelectionLemmas
 pub mod WalkingLemmas

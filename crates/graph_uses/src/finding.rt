@@ -1,7 +1,7 @@
 //! Finding a commit by its id.
 
-ghost use Rattle.std.specs.Prelude.{◌≡◌, ◌<◌, ℕ, List, IfErr, IfOk, IfSome, Some, option_map};
-ghost use Rattle.std.specs.Prelude.{option_and_then, slice_get};
+ghost use Rattle.std.specs.Prelude.{◌≡◌, ◌≢◌, ◌<◌, ℕ, List, IfErr, IfOk, IfSome, IsNone, IsTrue};
+ghost use Rattle.std.specs.Prelude.{OnSome, Some, option_and_then, option_map, slice_get};
 ghost use Rattle.gix_hash_core.specs.Hexadecimal.{SpellsId, SpellsNone};
 ghost use Rattle.gix_hash_core.specs.Oid.{oid_bytes};
 ghost use Rattle.gix_commitgraph.specs.Graph.{graph_ids, total};
@@ -30,8 +30,13 @@ pub fn find(graph: &Checked<'_>, id: &str) -> Result<Option<Position>, IdError>
 /// The position of the commit with an id, where the check of the graph has found that no other
 /// position holds the id. `None` where that was not asked, or the graph has no such commit.
 pub fn only_position(graph: &Checked<'_>, id: oid<'_>) -> Option<Position>
-    ensures { IfSome result (λ pos. (p : ℕ) → p < total graph.now.layers
+    ensures asked { OnSome result (IsTrue graph.now.options.distinct_ids) }
+    ensures holds { IfSome result (λ pos.
+        slice_get (graph_ids graph.now.layers) pos.0 ≡ Some (oid_bytes id.entry)) }
+    ensures only { IfSome result (λ pos. (p : ℕ)
         → slice_get (graph_ids graph.now.layers) p ≡ Some (oid_bytes id.entry) → pos.0 ≡ p) }
+    ensures none { IsNone result → IsTrue graph.now.options.distinct_ids → (p : ℕ)
+        → slice_get (graph_ids graph.now.layers) p ≢ Some (oid_bytes id.entry) }
 {
     if graph.options().distinct_ids {
         graph.find(id)
