@@ -13,8 +13,8 @@ use Rattle.gix_commitgraph.specs.Graph.{IsGraph, graph_commits}
 use Rattle.gix_commitgraph.proofs.layers.GraphLemmas.{commit-lies}
 use Rattle.commit_objects.specs.CommitContents.{Said, Says}
 use Rattle.commit_objects.specs.Object.{object_id_of}
-use Rattle.graph_objects.specs.Matching.{AreContents, Matches, MatchesAt}
-use Rattle.graph_objects.specs.Mismatches.{Agree, IsAmiss, Mismatches, MismatchesAt}
+use Rattle.graph_objects.specs.Matching.{Agree, AreContents, Matches, MatchesAt}
+use Rattle.graph_objects.specs.Mismatches.{IsAmiss, Mismatches, MismatchesAt}
 use Rattle.graph_objects.specs.declared.Mismatch.{Mismatch}
 use Rattle.graph_objects.specs.declared.Mismatch.TheVariants.{OtherContents, Unreadable, Tree, Parent, Time}
 
@@ -67,9 +67,7 @@ finish layers layer pos bytes said (Ok x) contents says agree = record {
   contents = contents;
   said = said;
   says = says;
-  tree = agree.tree;
-  parents = agree.parents;
-  time = agree.time;
+  agree = agree;
 }
 finish layers layer pos bytes said (Err OtherContents) contents says amiss = absurd amiss
 finish layers layer pos bytes said (Err Unreadable) contents says amiss = absurd amiss

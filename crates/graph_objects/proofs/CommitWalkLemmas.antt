@@ -140,7 +140,7 @@ module _ (layers : List Layer) (kind : Kind) (all : List (List ℕ)) (opened : A
         m.3.said,
         rw m.4 at m.3.says,
         named (graph_ids layers) decoded.positions decoded.fault m.3.said.parents q (object_id_of kind (at q))
-            m.3.parents there is,
+            m.3.agree.parents there is,
       )
 
   is_parent : AreDistinct layers → (p q : ℕ) → p < total layers → q < total layers
@@ -152,7 +152,7 @@ module _ (layers : List Layer) (kind : Kind) (all : List (List ℕ)) (opened : A
       let same : names.0 ≡ m.3.said = says_one kind (at p) names.0 m.3.said names.1 (rw m.4 at m.3.says) in
       let there : Contains m.3.said.parents (object_id_of kind (at q)) = rw (ap (λ (s : Said). s.parents) same) at names.2 in
       let back = named_back (graph_ids layers) decoded.positions decoded.fault m.3.said.parents (object_id_of kind (at q))
-      m.3.parents there in
+      m.3.agree.parents there in
       let is : slice_get (graph_ids layers) q ≡ Some (object_id_of kind (at q)) = id_there q q_within
       ∙ ap (λ i. Some i) (id_of q q_within) in
       let one : back.0 ≡ q = distinct back.0 q (object_id_of kind (at q)) back.2 is in

@@ -30,13 +30,13 @@ matches_or_not layers layer pos bytes OtherContents is not = not is.contents
 matches_or_not layers layer pos bytes Unreadable is not = not.1 is.said is.says
 matches_or_not layers layer pos bytes Tree is not =
     not_amiss layers layer pos is.said not.1.0 Tree (says_one layer.kind bytes is.said not.1.0 is.says not.1.1)
-    is.tree is.parents is.time not.1.2
+    is.agree.tree is.agree.parents is.agree.time not.1.2
 matches_or_not layers layer pos bytes (Parent index) is not =
     not_amiss layers layer pos is.said not.1.0 (Parent index) (says_one layer.kind bytes is.said not.1.0 is.says not.1.1)
-    is.tree is.parents is.time not.1.2
+    is.agree.tree is.agree.parents is.agree.time not.1.2
 matches_or_not layers layer pos bytes Time is not =
     not_amiss layers layer pos is.said not.1.0 Time (says_one layer.kind bytes is.said not.1.0 is.says not.1.1)
-    is.tree is.parents is.time not.1.2
+    is.agree.tree is.agree.parents is.agree.time not.1.2
 
 -- both of one place
 pub excluded : (layers : List Layer) (p : ℕ) (bytes : List ℕ) (m : Mismatch) → MatchesAt layers p bytes

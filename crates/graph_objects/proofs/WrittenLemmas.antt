@@ -47,9 +47,7 @@ pub as_recorded : (layers : List Layer) (kind : Kind) (layer : Layer) (pos : ℕ
 as_recorded layers kind layer pos bytes tree next rest items line root names same time = (
   record { tree = tree; parents = names.0; rest = rest },
   says_of kind bytes tree next names.0 rest line names.2,
-  sym root,
-  ap (ids_of_items (graph_ids layers)) (sym same) ∙ names.1,
-  inr time,
+  record { tree = sym root; parents = ap (ids_of_items (graph_ids layers)) (sym same) ∙ names.1; time = inr time },
 )
 
 -- the bytes of such a commit match it
@@ -59,7 +57,5 @@ matched_as_recorded layers kind layer pos bytes same contents recorded = record 
   contents = contents;
   said = recorded.0;
   says = rw same recorded.1;
-  tree = recorded.2;
-  parents = recorded.3;
-  time = recorded.4;
+  agree = recorded.2;
 }

@@ -1,4 +1,4 @@
--- When the record of a commit in a graph says what the bytes of the commit say.
+-- When the record of a commit in a graph says what the bytes of the commit say ("Commit Data"; Git's book, "Git Objects").
 use Rattle.std.specs.Prelude.{◌≡◌, ℕ, List, map, slice_get, Option, Some, None, Result, Ok, Err, IsSomeAnd}
 use Rattle.gix_hash_core.specs.declared.kind.Kind.{Kind}
 use Rattle.graph_format.specs.Layer.{Layer, record_at}
@@ -30,20 +30,23 @@ each_known ids = map (λ id. Some id) ids
 abbrev pub AreContents : Layer → ℕ → List ℕ → Type 0
 AreContents layer pos bytes = slice_get layer.ids pos ≡ Some (object_id_of layer.kind bytes)
 
--- the bytes say what the record of the commit at a position of a layer says
-abbrev pub SaysAsRecorded : List Layer → Kind → Layer → ℕ → List ℕ → Type 0
-SaysAsRecorded layers kind layer pos bytes =
-    (said : Said) × Says kind bytes said × ((record_at layer pos).tree ≡ said.tree)
-    × (recorded_parents layers layer pos ≡ each_known said.parents) × IsTime said.rest (record_at layer pos).time
+-- The record of the commit at a position of a layer says what the commit says: its tree, the ids of its parents, in order and
+-- number, and a time of it ("Commit Data", "Extra Edge List").
+pub record Agree (layers : List Layer) (layer : Layer) (pos : ℕ) (said : Said) : Type 0 where
+  pub tree : (record_at layer pos).tree ≡ said.tree
+  pub parents : recorded_parents layers layer pos ≡ each_known said.parents
+  pub time : IsTime said.rest (record_at layer pos).time
 
 -- The commit at a position of a layer of the graph is the one with these bytes, and its record says what they say.
 pub record Matches (layers : List Layer) (layer : Layer) (pos : ℕ) (bytes : List ℕ) : Type 0 where
   pub contents : AreContents layer pos bytes
   pub said : Said
   pub says : Says layer.kind bytes said
-  pub tree : (record_at layer pos).tree ≡ said.tree
-  pub parents : recorded_parents layers layer pos ≡ each_known said.parents
-  pub time : IsTime said.rest (record_at layer pos).time
+  pub agree : Agree layers layer pos said
+
+-- For private contracts: the record says what bytes say, whatever their digest is
+abbrev pub SaysAsRecorded : List Layer → Kind → Layer → ℕ → List ℕ → Type 0
+SaysAsRecorded layers kind layer pos bytes = (said : Said) × Says kind bytes said × Agree layers layer pos said
 
 -- the same of the commit at a position of the graph
 abbrev pub MatchesAt : List Layer → ℕ → List ℕ → Type 0

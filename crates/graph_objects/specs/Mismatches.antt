@@ -33,9 +33,3 @@ Mismatches layers layer pos bytes mismatch =
 abbrev pub MismatchesAt : List Layer → ℕ → List ℕ → Mismatch → Type 0
 MismatchesAt layers p bytes mismatch =
     IsSomeAnd (slice_get (graph_commits layers) p) (λ place. Mismatches layers place.0 place.1 bytes mismatch)
-
--- The record says what the bytes say.
-pub record Agree (layers : List Layer) (layer : Layer) (pos : ℕ) (said : Said) : Type 0 where
-  pub tree : (record_at layer pos).tree ≡ said.tree
-  pub parents : recorded_parents layers layer pos ≡ each_known said.parents
-  pub time : IsTime said.rest (record_at layer pos).time

@@ -1,4 +1,4 @@
--- A stream of the commits of a graph, and why bytes are none.
+-- A stream of the commits of a graph, and why bytes are none (git-cat-file, "BATCH OUTPUT").
 use Rattle.std.specs.Prelude.{◌≡◌, ◌≢◌, ◌⊎◌, ◌<◌, ◌≤◌, ◌^◌, ℕ, ◌+◌, List, [], ◌∷◌, ◌++◌, length, take, slice_index}
 use Rattle.std.specs.Prelude.{slice_index_or, All}
 use Rattle.graph_format.specs.Layer.{Layer}

@@ -8,8 +8,8 @@ ghost use Rattle.graph_layer.specs.Commit.{commit_layer, commit_pos, commit_pare
 ghost use Rattle.graph_layer.specs.Commit.{layer_and_position};
 ghost use Rattle.gix_commitgraph.specs.Graph.{graph_commits, total};
 ghost use Rattle.commit_objects.specs.Object.{object_id_of, object_of};
-ghost use Rattle.graph_objects.specs.Matching.{Matches, MatchesAt, SaysAsRecorded};
-ghost use Rattle.graph_objects.specs.Mismatches.{Mismatches, MismatchesAt, IsAmiss, Agree};
+ghost use Rattle.graph_objects.specs.Matching.{Agree, Matches, MatchesAt, SaysAsRecorded};
+ghost use Rattle.graph_objects.specs.Mismatches.{IsAmiss, Mismatches, MismatchesAt};
 
 use crate::Mismatch;
 use crate::parents::{behind_parents, differing_parent};
