@@ -12,9 +12,16 @@ MayRead One reading = ⊤
 MayRead Two Signed = ⊥
 MayRead Two Unsigned = ⊤
 
--- probe i of a path: a number below 2 ^ 32, of the path's hashes with two seeds
+-- the two hashes of a path, each with a seed of its own: that of its first probe, and what each further probe adds
+abbrev pub first_hash : ByteReading → List ℕ → ℕ
+first_hash reading path = murmur3 reading 0x293ae76f path
+
+abbrev pub step_hash : ByteReading → List ℕ → ℕ
+step_hash reading path = murmur3 reading 0x7e646e2c path
+
+-- probe i of a path: a number below 2 ^ 32
 unfoldable pub probe : ByteReading → List ℕ → ℕ → ℕ
-probe reading path i = (murmur3 reading 0x293ae76f path + i * murmur3 reading 0x7e646e2c path) % 2 ^ 32
+probe reading path i = (first_hash reading path + i * step_hash reading path) % 2 ^ 32
 
 -- the bit of a filter that a probe hits: the filter's bits are counted byte by byte, each from its lowest bit up, and the probe
 -- is taken modulo their number
