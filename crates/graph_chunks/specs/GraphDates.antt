@@ -1,4 +1,5 @@
--- The check of the corrected dates of a graph: the first condition that refuses them.
+-- The check of the corrected dates of a graph: the first condition that refuses them ("corrected commit date" in Git's
+-- commit-graph design).
 use Rattle.std.specs.Prelude.{◌≡◌, ◌==◌, ◌⊎◌, ℕ, ◌+◌, ◌<◌, not, max, List, All, length, map, slice_get, Option, None, Some}
 use Rattle.std.specs.Prelude.{option_map}
 use Rattle.std.specs.Option.{option_and_then}
