@@ -42,8 +42,11 @@ EDIT_FILE = re.compile(r"^crates/(\w+)/(?:edits|must-fail)/(\w+/)?([^/]*)\.edit$
 
 TEST = re.compile(r"#\[test\]\s+(?:#\[.*\]\s+)*fn (\w+)")
 CELL_END = re.compile(r" \|(?= |$)")
-EDITS, TESTS = "Edits", "Tests"
-"""The titles of the columns that hold names of edits and of tests."""
+CONTRACT, EDITS, TESTS = "Contract", "Edits", "Tests"
+"""The titles of the columns that hold names of functions with contracts, of edits and of tests."""
+
+DECLARED = re.compile(r"\b(?:fn|struct|enum|trait|type|mod|const|ensures|for) (\w+)|^impl(?:<[^>]*>)? (?:\w+::)*(\w+)", re.MULTILINE)
+"""What code has by a name: an item, a clause, or an impl by its trait and its type."""
 
 
 def missing_paths(texts):
@@ -201,6 +204,21 @@ def missing_code(texts):
     for place, _, column, name in quotations(texts, code_documents(texts)):
         if CODE.fullmatch(name) and not PATH.fullmatch(name) and column != EDITS:
             if name.split("::")[-1] not in (functions | crates if column == TESTS else words):
+                yield "%s names %s" % (place, name)
+
+
+def missing_contracts(texts):
+    """The places in the columns of contracts that name what neither the crate nor one below it has. Laws have a check of
+    their own.
+    """
+    lower = lower_crates(texts["crates.txt"])
+    declared = {crate: set(lower) for crate in lower}
+    for path in filter(lambda path: path.startswith("crates/") and path.endswith(".rt"), texts):
+        declared[path.split("/")[1]].update(name for found in DECLARED.findall(texts[path]) for name in found if name)
+    for place, crate, column, name in quotations(texts, filter(README.fullmatch, texts)):
+        parts = name.split("::")
+        if column == CONTRACT and CODE.fullmatch(name) and "law" not in parts:
+            if not all(any(part in declared.get(below, ()) for below in lower[crate]) for part in parts):
                 yield "%s names %s" % (place, name)
 
 
