@@ -1,6 +1,7 @@
 -- A stream of the commits of a graph, and why bytes are none (git-cat-file, "BATCH OUTPUT").
 use Rattle.std.specs.Prelude.{◌≡◌, ◌≢◌, ◌⊎◌, ◌<◌, ◌≤◌, ◌^◌, ℕ, ◌+◌, List, [], ◌∷◌, ◌++◌, length, take, slice_index}
 use Rattle.std.specs.Prelude.{slice_index_or, All}
+use Rattle.std.specs.List.{flat_map, enumerate_from}
 use Rattle.graph_format.specs.Layer.{Layer}
 use Rattle.gix_commitgraph.specs.Graph.{graph_ids}
 use Rattle.graph_objects.specs.BatchEntry.{line_of_commit, commit_entry, longest_line, HasNoFeed, IsLine, IsOtherLine}
@@ -18,8 +19,7 @@ graph_id_at layers p = slice_index_or (graph_ids layers) p []
 
 -- the entries of commits with these contents, for the positions from p on
 abbrev pub entries_of : List Layer → ℕ → List (List ℕ) → List ℕ
-entries_of layers p [] = []
-entries_of layers p (contents ∷ later) = commit_entry (graph_id_at layers p) contents ++ entries_of layers (p + 1) later
+entries_of layers p all = flat_map (λ e. commit_entry (graph_id_at layers e.0) e.1) (enumerate_from p all)
 
 -- each of the contents matches the commit at its position, from p on; sizes have 64 bits
 abbrev pub AllMatch : List Layer → ℕ → List (List ℕ) → Type 0
