@@ -18,7 +18,7 @@ use Rattle.graph_walks.specs.Dates.{number_at}
 use Rattle.gix_commitgraph.specs.Graph.{IsGraph, start, total}
 use Rattle.gix_commitgraph.proofs.layers.LayerListLemmas.{counted-fits, start-more, start-none}
 use Rattle.graph_format.proofs.LayerHistoryLemmas.{opened_is_paired}
-use Rattle.graph_chunks.specs.GraphStoredDates.{dates_of, layer_refusal}
+use Rattle.graph_chunks.specs.GraphStoredDates.{dates_of, layer_dates_refusal}
 use Rattle.graph_chunks.specs.GraphDates.{in_graph, reading_fault}
 
 -- the dates of the layers below layer i
@@ -44,19 +44,20 @@ reading-none layers = first_below-none (reading_fault layers)
 
 -- what layer i says of its reading
 fault_at : (layers : List Layer) (i : ℕ) (d : Layer) → i < length layers
-    → reading_fault layers i ≡ option_map (in_graph i (start layers i)) (layer_refusal (get_or layers i d))
+    → reading_fault layers i ≡ option_map (in_graph i (start layers i)) (layer_dates_refusal (get_or layers i d))
 fault_at layers i d within =
-    ap (λ o. option_map (in_graph i (start layers i)) (option_and_then layer_refusal o)) (slice_get-get_or layers i d within)
+    ap (λ o. option_map (in_graph i (start layers i)) (option_and_then layer_dates_refusal o))
+    (slice_get-get_or layers i d within)
 
 pub reading-fine : (layers : List Layer) (i : ℕ) (d : Layer) → first_below (reading_fault layers) i ≡ None → i < length layers
-    → layer_refusal (get_or layers i d) ≡ None → first_below (reading_fault layers) (i + 1) ≡ None
+    → layer_dates_refusal (get_or layers i d) ≡ None → first_below (reading_fault layers) (i + 1) ≡ None
 reading-fine layers i d none within fine =
     first_below-none_more (reading_fault layers) i none
     (fault_at layers i d within ∙ ap (option_map (in_graph i (start layers i))) fine)
 
 pub reading-found : (layers : List Layer) (i before : ℕ) (d : Layer) (error : LayerDatesError)
     → first_below (reading_fault layers) i ≡ None → i < length layers → before ≡ start layers i
-    → layer_refusal (get_or layers i d) ≡ Some error
+    → layer_dates_refusal (get_or layers i d) ≡ Some error
     → first_below (reading_fault layers) (length layers) ≡ Some (in_graph i before error)
 reading-found layers i before d error none within counted found =
     first_below-found (reading_fault layers) i (length layers) (in_graph i before error) none

@@ -13,7 +13,7 @@ use Rattle.graph_format.specs.Layer.{Layer, record_at}
 use Rattle.graph_format.specs.Parents.{DecodedParents, position_of, parents_of}
 use Rattle.graph_format.specs.StoredHistory.{history_of}
 use Rattle.gix_commitgraph.specs.Graph.{graph_commits, start, total}
-use Rattle.graph_chunks.specs.GraphStoredDates.{layer_refusal, times_of, dates_of}
+use Rattle.graph_chunks.specs.GraphStoredDates.{layer_dates_refusal, times_of, dates_of}
 use Rattle.graph_chunks.specs.declared.dates.DatesError.{DatesError}
 use Rattle.graph_chunks.specs.declared.dates.DatesError.TheVariants as error
 
@@ -27,7 +27,7 @@ in_graph i before layer_error.OutOfMemory = error.OutOfMemory
 
 -- why the dates of layer i cannot be read
 abbrev pub reading_fault : List Layer → ℕ → Option DatesError
-reading_fault layers i = option_map (in_graph i (start layers i)) (option_and_then layer_refusal (slice_get layers i))
+reading_fault layers i = option_map (in_graph i (start layers i)) (option_and_then layer_dates_refusal (slice_get layers i))
 
 -- what is wrong with the date of commit p
 abbrev pub wrong_date : List Node → List ℕ → List ℕ → ℕ → Option DatesError

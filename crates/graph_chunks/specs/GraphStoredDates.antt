@@ -8,8 +8,8 @@ use Rattle.graph_format.specs.Layer.{Layer, record_at}
 use Rattle.gix_commitgraph.specs.Graph.{graph_commits}
 
 -- why a layer's corrected dates cannot be read
-unfoldable pub layer_refusal : Layer → Option LayerDatesError
-layer_refusal layer = dates_refusal (offsets_in layer) (overflow_in layer) (times_in layer)
+unfoldable pub layer_dates_refusal : Layer → Option LayerDatesError
+layer_dates_refusal layer = dates_refusal (offsets_in layer) (overflow_in layer) (times_in layer)
 
 -- the committer's times of a graph's commits, in their order
 unfoldable pub times_of : List Layer → List ℕ

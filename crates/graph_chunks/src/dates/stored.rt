@@ -6,7 +6,7 @@ ghost use Rattle.std.specs.Prelude.{IfOk, IfErr, IfSome};
 ghost use Rattle.gix_chunk_core.specs.FirstFault.{first_below};
 ghost use Rattle.graph_chunks.specs.StoredDates.{NamesOneOf};
 ghost use Rattle.graph_format.specs.OptionalChunks.{HasDates, dates_in, offsets_in, overflow_in};
-ghost use Rattle.graph_chunks.specs.GraphStoredDates.{dates_of, layer_refusal};
+ghost use Rattle.graph_chunks.specs.GraphStoredDates.{dates_of, layer_dates_refusal};
 ghost use Rattle.graph_chunks.specs.GraphDates.{in_graph, reading_fault, AreReadable, MayNotRead};
 
 use crate::dates::DatesError;
@@ -51,21 +51,21 @@ fn overflow_of(file: &File) -> &[u8]
 }
 
 /// Puts the dates of a layer after those of the layers below it.
-#[tactic(auto, unfolding(graph_format::specs::OptionalChunks::dates_in, crate::specs::GraphStoredDates::layer_refusal))]
+#[tactic(auto, unfolding(graph_format::specs::OptionalChunks::dates_in, crate::specs::GraphStoredDates::layer_dates_refusal))]
 fn read_layer(dates: &mut Vec<u64>, file: &File) -> Result<(), LayerDatesError>
     ensures dates { IfOk result (λ _. dates.new.items ≡ dates.old.items ++ dates_in file.now) }
     ensures small { IfOk result (λ _. All (λ date. date < 2 ^ 63) dates.old.items
         → All (λ date. date < 2 ^ 63) dates.new.items) }
-    ensures none { IfOk result (λ _. layer_refusal file.now ≡ None) }
+    ensures none { IfOk result (λ _. layer_dates_refusal file.now ≡ None) }
 {
     let _commits = file.num_commits();
     decode_dates(dates, offsets_of(file), overflow_of(file), times(file))
 }
 
 /// Why the dates of a layer cannot be read.
-#[tactic(auto, unfolding(crate::specs::GraphStoredDates::layer_refusal))]
+#[tactic(auto, unfolding(crate::specs::GraphStoredDates::layer_dates_refusal))]
 fn refusal_of_layer(file: &File) -> Option<LayerDatesError>
-    ensures refusal { result ≡ layer_refusal file.now }
+    ensures refusal { result ≡ layer_dates_refusal file.now }
     ensures place { IfSome result (NamesOneOf (length file.now.ids)) }
 {
     let _commits = file.num_commits();

@@ -1,6 +1,6 @@
 use Rattle.std.proofs.Common.{◌+◌, ◌<◌, ◌^◌, length, sym, ap, ◌∙◌, arith}
 use Rattle.graph_format.specs.Layer.{Layer}
-use Rattle.graph_chunks.specs.GraphStoredDates.{layer_refusal}
+use Rattle.graph_chunks.specs.GraphStoredDates.{layer_dates_refusal}
 use Rattle.graph_chunks.proofs.StoredDateLemmas.{layer-fits, layer-next, reading-fine}
 use Rattle.graph_chunks.proofs.dates.stored.reading_refusal.Goals as goal
 use Rattle.graph_chunks.proofs.dates.stored.reading_refusal.Goals.{After-refusal_of_layer}
@@ -29,7 +29,7 @@ loop-layer-preserved c =
     layer-next layers c.loop-layer.layer c.loop-layer.before c.index-layers-layer.result within c.loop-layer.invariant.counted in
     record {
       read = reading-fine layers c.loop-layer.layer c.index-layers-layer-in-loop-layer.result c.loop-layer.invariant.read within
-          (ap layer_refusal (sym c.index-layers-layer-in-loop-layer.is) ∙ sym c.in_default.ensures.refusal);
+          (ap layer_dates_refusal (sym c.index-layers-layer-in-loop-layer.is) ∙ sym c.in_default.ensures.refusal);
       counted = omega (
         arith,
         next,
