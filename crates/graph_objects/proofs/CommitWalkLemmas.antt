@@ -89,10 +89,10 @@ AllMatch-at layers p [] i c agree there = cc there
 AllMatch-at layers p (first ∷ all) zero c agree there =
     let same : p + 0 ≡ p = omega arith in
     let is : first ≡ c = cc there in
-    rw (same, ← is) agree.0
+    rw (same, ← is) agree.0.0
 AllMatch-at layers p (first ∷ all) (suc i) c agree there =
     let same : p + suc i ≡ p + 1 + i = omega arith in
-    rw same (AllMatch-at layers (p + 1) all i c agree.2 there)
+    rw same (AllMatch-at layers (p + 1) all i c agree.1 there)
 
 module _ (layers : List Layer) (kind : Kind) (all : List (List ℕ)) (opened : All IsOpened layers)
     (alike : All (λ layer. layer.kind ≡ kind) layers)

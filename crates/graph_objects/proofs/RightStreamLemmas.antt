@@ -101,16 +101,16 @@ has_more layers first (c ∷ some) (d ∷ all) bytes next end one two e f fewer 
     let front : BeginsWithEntry id bytes c rest = record {
       whole = e
           ∙ append_assoc (commit_entry id c) (entries_of layers (first + 1) some) next;
-      fits = one.1;
+      fits = one.0.1;
     } in
     let back : BeginsWithEntry id bytes d others = record {
       whole = f
           ∙ append_assoc (commit_entry id d) (entries_of layers (first + 1) all) end;
-      fits = two.1;
+      fits = two.0.1;
     } in
-    let same = entry_once id bytes c d rest others (matched-bytes layers first c one.0) (matched-short layers first c one.0)
+    let same = entry_once id bytes c d rest others (matched-bytes layers first c one.0.0) (matched-short layers first c one.0.0)
     front back in
-    let later = has_more layers (first + 1) some all rest next end one.2 two.2 refl same.1 (omega (arith, fewer)) in
+    let later = has_more layers (first + 1) some all rest next end one.1 two.1 refl same.1 (omega (arith, fewer)) in
     let place : first + 1 + length some ≡ first + length (c ∷ some) = omega arith in
     (later.0, omega (arith, later.1), rw place at later.2)
 
@@ -138,9 +138,9 @@ entry_there layers first p q bytes next last one two less =
           entries_of layers (p + 1) later ++ last,
           record {
             whole = whole ∙ append_assoc (commit_entry (graph_id_at layers p) c) (entries_of layers (p + 1) later) last;
-            fits = agree.1;
+            fits = agree.0.1;
           },
-          agree.0,
+          agree.0.0,
         )
 
 -- and what follows is one thing
@@ -170,7 +170,7 @@ AllMatch-append : (layers : List Layer) (p : ℕ) (some others : List (List ℕ)
 AllMatch-append layers p [] others one two = let same : p + length {A = List ℕ} [] ≡ p = omega arith in rw same at two
 AllMatch-append layers p (c ∷ some) others one two =
     let same : p + length (c ∷ some) ≡ p + 1 + length some = omega arith in
-    (one.0, one.1, AllMatch-append layers (p + 1) some others one.2 (rw same at two))
+    (one.0, AllMatch-append layers (p + 1) some others one.1 (rw same at two))
 
 entries_of-append : (layers : List Layer) (p : ℕ) (some others : List (List ℕ))
     → entries_of layers p (some ++ others) ≡ entries_of layers p some ++ entries_of layers (p + length some) others

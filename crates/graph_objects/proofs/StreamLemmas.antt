@@ -33,10 +33,10 @@ entries_of-push layers p (first ∷ all) contents =
 pub AllMatch-push : (layers : List Layer) (p : ℕ) (all : List (List ℕ)) (contents : List ℕ) → AllMatch layers p all
     → MatchesAt layers (p + length all) contents → length contents < 2 ^ 64 → AllMatch layers p (all ++ contents ∷ [])
 AllMatch-push layers p [] contents agree matches fits = let here : MatchesAt layers p contents = rw (add-zero p)
-    at matches in (here, fits, tt)
+    at matches in ((here, fits), tt)
 AllMatch-push layers p (first ∷ all) contents agree matches fits =
     let same : p + length (first ∷ all) ≡ p + 1 + length all = omega arith in
-    (agree.0, agree.1, AllMatch-push layers (p + 1) all contents agree.2 (rw same at matches) fits)
+    (agree.0, AllMatch-push layers (p + 1) all contents agree.1 (rw same at matches) fits)
 
 pub none_passed : (layers : List Layer) (first : ℕ) (bytes : List ℕ) → IsStreamUpTo layers first first bytes bytes
 none_passed layers first bytes = record { contents = []; counted = omega arith; agree = tt; whole = refl }

@@ -1,7 +1,7 @@
 -- A stream of the commits of a graph, and why bytes are none (git-cat-file, "BATCH OUTPUT").
-use Rattle.std.specs.Prelude.{◌≡◌, ◌≢◌, ◌⊎◌, ◌<◌, ◌≤◌, ◌^◌, ℕ, ◌+◌, List, [], ◌∷◌, ◌++◌, length, take, slice_index}
+use Rattle.std.specs.Prelude.{◌≡◌, ◌≢◌, ◌⊎◌, ◌<◌, ◌≤◌, ◌^◌, ℕ, ◌+◌, List, [], ◌++◌, length, take, slice_index}
 use Rattle.std.specs.Prelude.{slice_index_or, All}
-use Rattle.std.specs.List.{flat_map, enumerate_from}
+use Rattle.std.specs.List.{AllByRecursion, flat_map, enumerate_from}
 use Rattle.graph_format.specs.Layer.{Layer}
 use Rattle.gix_commitgraph.specs.Graph.{graph_ids}
 use Rattle.graph_objects.specs.BatchEntry.{line_of_commit, commit_entry, longest_line, HasNoFeed, IsLine, IsOtherLine}
@@ -23,8 +23,7 @@ entries_of layers p all = flat_map (λ e. commit_entry (graph_id_at layers e.0) 
 
 -- each of the contents matches the commit at its position, from p on; sizes have 64 bits
 abbrev pub AllMatch : List Layer → ℕ → List (List ℕ) → Type 0
-AllMatch layers p [] = Unit {0}
-AllMatch layers p (contents ∷ later) = MatchesAt layers p contents × (length contents < 2 ^ 64) × AllMatch layers (p + 1) later
+AllMatch layers p all = AllByRecursion (λ e. MatchesAt layers e.0 e.1 × (length e.1 < 2 ^ 64)) (enumerate_from p all)
 
 -- The bytes begin with the entries of the positions from first up to p, which match, and this is next.
 pub record IsStreamUpTo (layers : List Layer) (first p : ℕ) (bytes next : List ℕ) : Type 0 where
