@@ -3,7 +3,6 @@
 
 ghost use Rattle.std.specs.Prelude.{◌≡◌, ◌≢◌, ◌<◌, [], ◌∷◌, Some, All, IfErr, IfOk, OnOk};
 ghost use Rattle.std.specs.Io.KnownBytes.{Appends};
-ghost use Rattle.std.specs.List.{flat_map};
 ghost use Rattle.gix_hash_core.specs.Oid.{oid_bytes};
 ghost use Rattle.gix_commitgraph.specs.Graph.{total};
 ghost use Rattle.graph_commands.specs.Ancestor.{IsThere};
@@ -11,12 +10,11 @@ ghost use Rattle.graph_commands.specs.Buffer.{with_buffer};
 ghost use Rattle.graph_commands.specs.Report.{commit_text, found_line};
 ghost use Rattle.graph_commands.specs.Text.{◌⧺◌, newline};
 ghost use Rattle.history_commands.specs.IsAncestor.{IsTold, is_ancestor_text};
-ghost use Rattle.history_commands.specs.MergeBases.{AreBasesWithin, MayFindOfAll};
-ghost use Rattle.history_commands.specs.MergeBases.{bases_text, compared_text, counts_text};
-ghost use Rattle.history_commands.specs.MergeBases.{merge_base_line};
+ghost use Rattle.history_commands.specs.MergeBases.{AreBasesWithin, bases_text, compared_text};
+ghost use Rattle.history_commands.specs.MergeBases.{counts_text, merge_base_line};
 ghost use Rattle.history_commands.specs.Question.{MayFindBoth};
-ghost use Rattle.history_commands.specs.Walk.{AreInGraph, IsWalkOfIds, id_in, id_line};
-ghost use Rattle.history_commands.specs.Walk.{walk_found_text, with_ids};
+ghost use Rattle.history_commands.specs.Walk.{AreInGraph, IsWalkOfIds, walk_found_text};
+ghost use Rattle.history_commands.specs.Walk.{with_ids};
 ghost use Rattle.question_commands.specs.Questions.{HasAllIds, question_ids, question_name};
 ghost use Rattle.question_commands.specs.Replies.{AddsReply, parent_ids_at, parents_line};
 ghost use Rattle.question_commands.specs.declared.question.Name.TheVariants as named;
@@ -31,16 +29,14 @@ use graph_commands::refusal::Refusal;
 use graph_commands::report::Found;
 use graph_history::{Checked, Comparer, Comparison, Divergence, Searcher};
 use history_commands::Answer;
-use history_commands::bases::{Compared, find_all, find_unknown, push_base};
+use history_commands::bases::{Compared, compare_by, push_bases};
+use history_commands::walk::{FoundWalk, push_ids};
 use std::alloc::Global;
 use std::io::Write;
 use std::marker::Model;
 
 /// The line that says that memory ran out in a search.
 const REFUSED_WALK: &str = "refused walk\n";
-
-/// What is found of the walk from one commit to another, by positions: none where there is no walk.
-type FoundWalk = Answer<Option<Vec<Position>>>;
 
 /// Answers questions over one graph that was checked, and keeps its memory from one question to the
 /// next: that of a [`Searcher`] and of a [`Comparer`]. A contract sees it as the graph's layers.
@@ -342,25 +338,6 @@ fn push_reached<W: Write>(
     }
 }
 
-/// Adds the ids at these positions, a line for each.
-fn push_ids<W: Write>(
-    buffer: &mut Buffer,
-    writer: &mut W,
-    graph: &Checked<'_>,
-    walk: &[Position],
-) -> Result<(), WriteFailed>
-    requires { All (λ pos. pos.0 < total graph.now.layers) walk.now }
-    ensures { OnOk result (Appends (with_buffer (W.contents writer.old) buffer.old)
-        (with_buffer (W.contents writer.new) buffer.new)
-        (flat_map (λ pos. id_line (id_in graph.now.layers pos.0)) walk.now)) }
-{
-    for pos in walk {
-        buffer.push_id(writer, graph.id(*pos))?;
-        buffer.push_byte(writer, b'\n')?;
-    }
-    Ok(())
-}
-
 /// Adds the lines of what the commit with the first id and those with the others have in common; or
 /// of the first id that is not there; or that memory ran out.
 fn tell_compared<W: Write>(
@@ -381,40 +358,9 @@ fn tell_compared<W: Write>(
     let graph = comparer.graph();
     // The contract of `num_commits` says that the graph is right.
     let _commits = graph.num_commits();
-    match compare(alloc, comparer, first, others) {
+    match compare_by(alloc, comparer, first, others) {
         Ok(compared) => push_compared(buffer, writer, graph, &compared),
         Err(_) => buffer.push_text(writer, REFUSED_WALK),
-    }
-}
-
-/// What is found of the commits with these ids. The error is `Walk`, where all of them are there
-/// and an allocation failed.
-fn compare(
-    alloc: Global,
-    comparer: &mut Comparer<'_, '_>,
-    first: oid<'_>,
-    others: &[ObjectId],
-) -> Result<Compared, Refusal>
-    ensures found { IfOk result
-        (MayFindOfAll comparer.old.layers (oid_bytes first.entry ∷ others.now)) }
-    ensures within { IfOk result (AreBasesWithin comparer.old.layers) }
-    ensures refused { IfErr result (λ refusal. (refusal ≡ Refusal.Walk)
-        × All (IsThere comparer.old.layers) (oid_bytes first.entry ∷ others.now)) }
-    ensures comparer { comparer.new ≡ comparer.old }
-{
-    let graph = comparer.graph();
-    let Some(first) = graph.find(first) else {
-        return Ok(Compared::Unknown(1));
-    };
-    if let Some(place) = find_unknown(graph, others) {
-        return Ok(Compared::Unknown(place as u64 + 2));
-    }
-    let Ok(others) = find_all(alloc, graph, others) else {
-        return Err(Refusal::Walk);
-    };
-    match comparer.compare(first, &others) {
-        Ok(comparison) => Ok(Compared::Known(comparison)),
-        Err(_) => Err(Refusal::Walk),
     }
 }
 
@@ -437,14 +383,14 @@ fn push_compared<W: Write>(
             buffer.push_byte(writer, b'\n')
         }
         Compared::Known(comparison) => {
-            push_bases(buffer, writer, graph, &comparison.bases.positions)?;
+            push_bases_or_none(buffer, writer, graph, &comparison.bases.positions)?;
             push_counts(buffer, writer, comparison)
         }
     }
 }
 
 /// Adds the lines of bases, or that there is none.
-fn push_bases<W: Write>(
+fn push_bases_or_none<W: Write>(
     buffer: &mut Buffer,
     writer: &mut W,
     graph: &Checked<'_>,
@@ -458,10 +404,7 @@ fn push_bases<W: Write>(
     if bases.is_empty() {
         return buffer.push_text(writer, "none\n");
     }
-    for base in bases {
-        push_base(buffer, writer, graph, *base)?;
-    }
-    Ok(())
+    push_bases(buffer, writer, graph, bases)
 }
 
 /// Adds how many commits are ahead and behind, and how many were visited. `WriteFailed` comes where

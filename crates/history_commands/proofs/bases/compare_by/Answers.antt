@@ -4,7 +4,7 @@ use Rattle.std.proofs.lemmas.List.Elements.{All-cons}
 use Rattle.gix_hash_core.specs.Oid.{oid_bytes}
 use Rattle.graph_commands.specs.Ancestor.{IsThere}
 use Rattle.history_commands.proofs.BasesLemmas.{unknown_later}
-use Rattle.question_commands.proofs.telling.compare.Goals as goal
+use Rattle.history_commands.proofs.bases.compare_by.Goals as goal
 
 pub returns-in-Some-find_unknown-clause-found : goal.returns-in-Some-find_unknown-clause-found
 returns-in-Some-find_unknown-clause-found c =

@@ -4,7 +4,7 @@ use Rattle.std.specs.List.{flat_map}
 use Rattle.std.specs.Io.KnownBytes.{Appends}
 use Rattle.graph_commands.specs.Buffer.{with_buffer}
 use Rattle.history_commands.specs.MergeBases.{merge_base_line}
-use Rattle.history_commands.proofs.bases.write_bases.Given as goal
+use Rattle.history_commands.proofs.bases.push_bases.Given as goal
 
 abbrev pub invariant-loop-base : goal.invariant-loop-base
 invariant-loop-base g l =
