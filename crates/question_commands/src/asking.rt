@@ -8,7 +8,7 @@ ghost use Rattle.graph_commands.specs.Text.{◌⧺◌, newline};
 ghost use Rattle.graph_history.specs.RightGraph.{plain_options};
 ghost use Rattle.question_commands.specs.AnsweredLines.{AnswersOver, MayBeTold, StopsAt};
 ghost use Rattle.question_commands.specs.Asking.{AreTurns, MayAsk, Reloads, all_checked};
-ghost use Rattle.question_commands.specs.Asking.{Standing, Turn, turn_text};
+ghost use Rattle.question_commands.specs.Asking.{State, Turn, turn_text};
 ghost use Rattle.question_commands.specs.Ending.{EndsAsked};
 ghost use Rattle.question_commands.specs.Questions.{Asks};
 ghost use Rattle.question_commands.specs.ReadLines.{AreLinesOf};
@@ -119,7 +119,7 @@ fn answer_all<R: Read, T: Folder, W: Write>(
     graph: CheckedGraph,
 ) -> Result<Ended, WriteFailed>
     requires options { graph.options ≡ plain_options }
-    ensures answered { IfOk result (λ ended. (turns : List Turn) × (last : Standing)
+    ensures answered { IfOk result (λ ended. (turns : List Turn) × (last : State)
         × AreTurns (MayOpen (T.tree folder.old) path.now)
         (record { layers = graph.layers; failures = T.failure_count folder.old }) last turns
         × (last.failures ≡ T.failure_count folder.new)
@@ -162,7 +162,7 @@ fn answer_lines<R: Read, T: Folder, W: Write>(
     requires lines { lines.old.ahead ≡ [] }
     requires buffer { buffer.old ≡ [] }
     requires options { graph.options ≡ plain_options }
-    ensures answered { IfOk result (λ ended. (turns : List Turn) × (last : Standing)
+    ensures answered { IfOk result (λ ended. (turns : List Turn) × (last : State)
         × AreTurns (MayOpen (T.tree folder.old) path.now)
         (record { layers = graph.layers; failures = T.failure_count folder.old }) last turns
         × (last.failures ≡ T.failure_count folder.new)
