@@ -18,14 +18,14 @@ use Rattle.question_commands.specs.Asking.{Turn, all_checked, commits_checked, s
 use Rattle.question_commands.specs.Taken.{MayTake, Opener, end_text, end_status, taken_line}
 use Rattle.question_commands.specs.Ending.{EndsAsked}
 use Rattle.question_commands.specs.declared.asking.Asked.{Asked}
-use Rattle.question_commands.specs.InputLines.{HasNoLine, TakesLine}
+use Rattle.question_lines.specs.InputLines.{HasNoLine, TakesLine}
 use Rattle.question_commands.specs.ReadLines.{AreLinesOf, HasRead}
 use Rattle.question_commands.proofs.ReadLemmas.{lines_ended, lines_failed, reads_line, reads_more, reads_none}
 use Rattle.question_commands.proofs.BufferLemmas.{with_nothing}
 use Rattle.question_commands.specs.Proceeding.{Proceeds}
 use Rattle.question_commands.specs.AnsweredLines.{AnswersOver, MayBeTold, Told, told_text}
-use Rattle.question_commands.specs.Questions.{Asks}
-use Rattle.question_commands.specs.declared.question.Question.TheVariants as question
+use Rattle.question_lines.specs.Questions.{Asks}
+use Rattle.question_lines.specs.declared.question.Question.TheVariants as question
 use Rattle.question_commands.proofs.ReplyLemmas.{asks_reload, tells_over, told_kept}
 
 all_append : {X : Type 0} (P : X → Type 0) (xs ys : List X) → AllByRecursion P xs → AllByRecursion P ys

@@ -1,6 +1,4 @@
-pub mod LineLemmas
 pub mod ReadLemmas
-pub mod QuestionLemmas
 pub mod ReplyLemmas
 pub mod BufferLemmas
 pub mod TakingLemmas

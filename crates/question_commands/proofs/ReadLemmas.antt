@@ -4,7 +4,7 @@ use Rattle.std.specs.Io.KnownBytes.{prepend_known}
 use Rattle.std.specs.Str.Lines.{lines}
 use Rattle.graph_folder.specs.declared.folder.ReadError.{ReadError}
 use Rattle.graph_folder.specs.declared.folder.ReadError.TheVariants.{NotOpened}
-use Rattle.question_commands.specs.InputLines.{HasNoLine, LeavesBehind}
+use Rattle.question_lines.specs.InputLines.{HasNoLine, LeavesBehind}
 use Rattle.question_commands.specs.ReadLines.{AreLinesOf, HasRead}
 
 -- nothing was read yet

@@ -26,14 +26,14 @@ use Rattle.history_commands.specs.Walk.{IsWalkOfIds, id_in, walk_text}
 use Rattle.history_commands.specs.declared.bases.Compared.{Compared}
 use Rattle.history_commands.specs.declared.question.Answer.{Answer}
 use Rattle.question_commands.specs.AnsweredLines.{MayBeTold}
-use Rattle.question_commands.specs.InputLines.{IsKeptAs}
-use Rattle.question_commands.specs.Questions.{Asks, AsksForBases, name_text, question_ids, question_name, words_of}
+use Rattle.question_lines.specs.InputLines.{IsKeptAs}
+use Rattle.question_lines.specs.Questions.{Asks, AsksForBases, name_text, question_ids, question_name, words_of}
 use Rattle.question_commands.specs.Replies.{AddsReply, AreParentsOf, HasWords, IsOf, MayTell, MayTellFor, TellsOfIds}
 use Rattle.question_commands.specs.Replies.{parent_text, parents_line}
-use Rattle.question_commands.specs.declared.question.Question.{Question}
-use Rattle.question_commands.specs.declared.question.Question.TheVariants as question
-use Rattle.question_commands.specs.declared.question.Name.{Name}
-use Rattle.question_commands.specs.declared.question.Name.TheVariants.{Find, IsAncestor, Walk, MergeBase, Parents, Reload}
+use Rattle.question_lines.specs.declared.question.Question.{Question}
+use Rattle.question_lines.specs.declared.question.Question.TheVariants as question
+use Rattle.question_lines.specs.declared.question.Name.{Name}
+use Rattle.question_lines.specs.declared.question.Name.TheVariants.{Find, IsAncestor, Walk, MergeBase, Parents, Reload}
 
 -- the only refusal is want of memory
 only_walk : {A : Type 0} (answer : Result A Refusal) (P Q : Type 0)

@@ -6,15 +6,15 @@ use Rattle.graph_folder.specs.declared.folder.ReadError.TheVariants.{NotOpened}
 use Rattle.graph_format.specs.Layer.{Layer}
 use Rattle.graph_commands.specs.Text.{◌⧺◌, newline}
 use Rattle.graph_commands.specs.declared.refusal.Refusal.TheVariants.{Walk as no_memory}
-use Rattle.question_commands.specs.InputLines.{HasNoLine}
+use Rattle.question_lines.specs.InputLines.{HasNoLine}
 use Rattle.question_commands.specs.ReadLines.{HasRead}
-use Rattle.question_commands.specs.Questions.{Asks, AsksForBases, AsksNothing, question_ids, question_name}
+use Rattle.question_lines.specs.Questions.{Asks, AsksForBases, AsksNothing, question_ids, question_name}
 use Rattle.question_commands.specs.Replies.{TellsOfIds, refused_line}
 use Rattle.question_commands.specs.Taken.{opened_line}
 use Rattle.question_commands.specs.declared.asking.Next.{Next}
 use Rattle.question_commands.specs.declared.asking.Next.TheVariants as next
-use Rattle.question_commands.specs.declared.question.Question.{Question}
-use Rattle.question_commands.specs.declared.question.Question.TheVariants.{Reload}
+use Rattle.question_lines.specs.declared.question.Question.{Question}
+use Rattle.question_lines.specs.declared.question.Question.TheVariants.{Reload}
 
 -- what may be told for a line over a graph: that it asks nothing; that there is no memory to read its question about several
 -- commits; or what is told for its question

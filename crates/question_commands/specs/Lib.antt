@@ -1,8 +1,4 @@
-pub mod Places
-pub mod InputLines
 pub mod ReadLines
-pub mod Questions
-pub mod WordsLeft
 pub mod Replies
 pub mod Taken
 pub mod TakenAnew

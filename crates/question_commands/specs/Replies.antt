@@ -19,10 +19,10 @@ use Rattle.history_commands.specs.IsAncestor.{IsTold, is_ancestor_text}
 use Rattle.history_commands.specs.MergeBases.{MayCompare, merge_base_text}
 use Rattle.history_commands.specs.Question.{MayAnswer}
 use Rattle.history_commands.specs.Walk.{IsWalkOfIds, id_in, walk_text}
-use Rattle.question_commands.specs.InputLines.{most_line_bytes}
-use Rattle.question_commands.specs.Questions.{AsksNothing, name_text, words_of}
-use Rattle.question_commands.specs.declared.question.Name.{Name}
-use Rattle.question_commands.specs.declared.question.Name.TheVariants.{Find, IsAncestor, Walk, MergeBase, Parents}
+use Rattle.question_lines.specs.InputLines.{most_line_bytes}
+use Rattle.question_lines.specs.Questions.{AsksNothing, name_text, words_of}
+use Rattle.question_lines.specs.declared.question.Name.{Name}
+use Rattle.question_lines.specs.declared.question.Name.TheVariants.{Find, IsAncestor, Walk, MergeBase, Parents}
 
 -- an opener answers the graph that stands
 abbrev pub IsOf : List Layer → Result (List Layer) OpenError → Type 0

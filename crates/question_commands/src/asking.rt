@@ -10,12 +10,12 @@ ghost use Rattle.question_commands.specs.AnsweredLines.{AnswersOver, MayBeTold, 
 ghost use Rattle.question_commands.specs.Asking.{AreTurns, MayAsk, Reloads, all_checked};
 ghost use Rattle.question_commands.specs.Asking.{State, Turn, turn_text};
 ghost use Rattle.question_commands.specs.Ending.{EndsAsked};
-ghost use Rattle.question_commands.specs.Questions.{Asks};
+ghost use Rattle.question_lines.specs.Questions.{Asks};
 ghost use Rattle.question_commands.specs.ReadLines.{AreLinesOf};
 ghost use Rattle.question_commands.specs.Taken.{end_text, end_status, taken_line};
 
-use crate::lines::LineReader;
-use crate::question::{Question, read_question};
+use question_lines::lines::LineReader;
+use question_lines::question::{Question, read_question};
 use crate::taking::take_anew;
 use crate::telling::Teller;
 use crate::turn::{end, finish, write_count, write_refused};
@@ -277,7 +277,8 @@ pub fn answer_over<R: Read, W: Write>(
     Ok(Next::Failed(ReadError::Device))
 }
 
-/// Answers a line, unless it asks for the graph to be opened anew; and answers whether it does not.
+/// Answers a line, and returns `true`. A line that asks for the graph to be opened anew is left, and
+/// `false` is returned.
 fn answer<W: Write>(
     alloc: Global,
     teller: &mut Teller<'_, '_>,

@@ -15,11 +15,11 @@ ghost use Rattle.history_commands.specs.MergeBases.{counts_text, merge_base_line
 ghost use Rattle.history_commands.specs.Question.{MayFindBoth};
 ghost use Rattle.history_commands.specs.Walk.{AreInGraph, IsWalkOfIds, walk_found_text};
 ghost use Rattle.history_commands.specs.Walk.{with_ids};
-ghost use Rattle.question_commands.specs.Questions.{HasAllIds, question_ids, question_name};
+ghost use Rattle.question_lines.specs.Questions.{HasAllIds, question_ids, question_name};
 ghost use Rattle.question_commands.specs.Replies.{AddsReply, parent_ids_at, parents_line};
-ghost use Rattle.question_commands.specs.declared.question.Name.TheVariants as named;
+ghost use Rattle.question_lines.specs.declared.question.Name.TheVariants as named;
 
-use crate::question::Question;
+use question_lines::question::Question;
 use gix_commitgraph::Position;
 use gix_hash_core::{ObjectId, oid};
 use graph_commands::buffer::Buffer;

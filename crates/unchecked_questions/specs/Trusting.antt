@@ -20,10 +20,10 @@ use Rattle.unchecked_commands.specs.UncheckedAnswer.{IsFoundUnchecked}
 use Rattle.unchecked_commands.specs.UncheckedBases.{IsToldByParts, told_bases_text}
 use Rattle.unchecked_commands.specs.UncheckedWalk.{IsWalkThere}
 use Rattle.question_commands.specs.AnsweredLines.{Told, told_text}
-use Rattle.question_commands.specs.Questions.{Asks, AsksForBases, AsksNothing, question_ids, question_name}
+use Rattle.question_lines.specs.Questions.{Asks, AsksForBases, AsksNothing, question_ids, question_name}
 use Rattle.question_commands.specs.ReadLines.{AreLinesOf}
-use Rattle.question_commands.specs.declared.question.Question.{Question}
-use Rattle.question_commands.specs.declared.question.Question.TheVariants.{Find, IsAncestor, Walk, MergeBase, Parents, Reload}
+use Rattle.question_lines.specs.declared.question.Question.{Question}
+use Rattle.question_lines.specs.declared.question.Question.TheVariants.{Find, IsAncestor, Walk, MergeBase, Parents, Reload}
 use Rattle.question_commands.specs.Replies.{TellsOfIds, parent_ids_at, parents_line, refused_line}
 use Rattle.question_commands.specs.Taken.{MayTake, Opener, opened_line, end_status, end_text}
 

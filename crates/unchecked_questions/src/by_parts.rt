@@ -27,7 +27,7 @@ use graph_parts::parts::StoredCommit;
 use graph_unchecked::question::{Among, Between, IdComparison, Unread};
 use graph_unchecked::trusted::TrustedGraph;
 use history_commands::bases::push_line_of_base;
-use question_commands::question::Question;
+use question_lines::question::Question;
 use question_commands::telling::{push_counts, push_found};
 use std::io::Write;
 

@@ -1,6 +1,6 @@
 -- The lines are answered over the graph.
 use Rattle.std.proofs.Common.{◌∙◌, rules}
-use Rattle.question_commands.specs.declared.question.Question.TheVariants.{Reload}
+use Rattle.question_lines.specs.declared.question.Question.TheVariants.{Reload}
 use Rattle.question_commands.proofs.ReadLemmas.{reads_line}
 use Rattle.question_commands.proofs.AskingLemmas.{over_more, over_none}
 use Rattle.question_commands.proofs.ReplyLemmas.{asks_kept}

@@ -2,7 +2,7 @@
 use Rattle.std.proofs.Common.{[], ◌∷◌}
 use Rattle.gix_hash_core.specs.Oid.{oid_bytes}
 use Rattle.history_commands.specs.IsAncestor.{is_ancestor_text}
-use Rattle.question_commands.specs.declared.question.Name.TheVariants.{IsAncestor}
+use Rattle.question_lines.specs.declared.question.Name.TheVariants.{IsAncestor}
 use Rattle.question_commands.proofs.ReplyLemmas.{adds, tells_ancestor}
 use Rattle.question_commands.proofs.telling.tell_ancestor.Goals as goal
 

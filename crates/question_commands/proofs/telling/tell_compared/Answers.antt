@@ -4,7 +4,7 @@ use Rattle.std.specs.Prelude.{Err}
 use Rattle.gix_hash_core.specs.Oid.{oid_bytes}
 use Rattle.graph_commands.specs.declared.refusal.Refusal.TheVariants as refusal
 use Rattle.history_commands.specs.MergeBases.{compared_text, merge_base_text}
-use Rattle.question_commands.specs.declared.question.Name.TheVariants.{MergeBase}
+use Rattle.question_lines.specs.declared.question.Name.TheVariants.{MergeBase}
 use Rattle.question_commands.proofs.ReplyLemmas.{adds, tells_compared, tells_no_memory}
 use Rattle.question_commands.proofs.telling.tell_compared.Goals as goal
 

@@ -2,7 +2,7 @@
 use Rattle.std.proofs.Common.{[], ◌∷◌}
 use Rattle.gix_hash_core.specs.Oid.{oid_bytes}
 use Rattle.graph_commands.specs.Report.{found_line}
-use Rattle.question_commands.specs.declared.question.Name.TheVariants.{Find}
+use Rattle.question_lines.specs.declared.question.Name.TheVariants.{Find}
 use Rattle.question_commands.proofs.ReplyLemmas.{adds, tells_found}
 use Rattle.question_commands.proofs.telling.tell_found.Goals as goal
 

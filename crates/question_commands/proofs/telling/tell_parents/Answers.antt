@@ -2,7 +2,7 @@
 use Rattle.std.proofs.Common.{[], ◌∷◌, Some, None, refl, sym}
 use Rattle.gix_hash_core.specs.Oid.{oid_bytes}
 use Rattle.question_commands.specs.Replies.{parent_ids_at, parents_line}
-use Rattle.question_commands.specs.declared.question.Name.TheVariants.{Parents}
+use Rattle.question_lines.specs.declared.question.Name.TheVariants.{Parents}
 use Rattle.question_commands.proofs.ReplyLemmas.{adds, tells_parents}
 use Rattle.question_commands.proofs.telling.tell_parents.Goals as goal
 

@@ -4,7 +4,7 @@ use Rattle.std.specs.Prelude.{Ok, Err}
 use Rattle.gix_hash_core.specs.Oid.{oid_bytes}
 use Rattle.graph_commands.specs.declared.refusal.Refusal.TheVariants as refusal
 use Rattle.history_commands.specs.Walk.{walk_text, with_ids}
-use Rattle.question_commands.specs.declared.question.Name.TheVariants.{Walk}
+use Rattle.question_lines.specs.declared.question.Name.TheVariants.{Walk}
 use Rattle.question_commands.proofs.ReplyLemmas.{adds, tells_walk}
 use Rattle.question_commands.proofs.telling.tell_walk.Goals as goal
 

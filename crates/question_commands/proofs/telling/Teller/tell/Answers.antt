@@ -2,8 +2,8 @@
 use Rattle.std.proofs.Common.{◌≡◌, ◌∙◌, [], ◌∷◌, ap, sym}
 use Rattle.gix_hash_core.specs.Oid.{oid_bytes}
 use Rattle.graph_history.specs.RightGraph.{CheckedLayers}
-use Rattle.question_commands.specs.Questions.{question_ids, question_name}
-use Rattle.question_commands.specs.declared.question.Name.TheVariants.{IsAncestor, Walk, MergeBase, Parents}
+use Rattle.question_lines.specs.Questions.{question_ids, question_name}
+use Rattle.question_lines.specs.declared.question.Name.TheVariants.{IsAncestor, Walk, MergeBase, Parents}
 use Rattle.question_commands.proofs.ReplyLemmas.{adds_for}
 use Rattle.question_commands.proofs.telling.Teller.tell.Goals as goal
 
