@@ -1,5 +1,2 @@
-pub mod ReadLemmas
-pub mod ReplyLemmas
-pub mod BufferLemmas
 pub mod TakingLemmas
 pub mod AskingLemmas

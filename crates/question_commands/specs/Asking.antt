@@ -9,9 +9,9 @@ use Rattle.graph_commands.specs.Text.{◌⧺◌, newline}
 use Rattle.graph_commands.specs.declared.refusal.Refusal.{Refusal}
 use Rattle.graph_history.specs.Reload.{StandAboveShared}
 use Rattle.history_commands.specs.Check.{MayRefuseToStart}
-use Rattle.question_commands.specs.ReadLines.{AreLinesOf}
-use Rattle.question_commands.specs.Replies.{HasWords, MayTellFor}
-use Rattle.question_commands.specs.Taken.{MayTake, Opener, end_status, end_text, taken_line}
+use Rattle.question_answers.specs.ReadLines.{AreLinesOf}
+use Rattle.question_answers.specs.Replies.{HasWords, MayTellFor}
+use Rattle.question_answers.specs.Taken.{MayTake, Opener, end_status, end_text, taken_line}
 use Rattle.question_lines.specs.declared.question.Name.TheVariants.{Reload}
 
 -- The state between two lines: the graph that answers, and how many reads of the folder's device have failed.

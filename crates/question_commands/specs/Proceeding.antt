@@ -3,8 +3,8 @@ use Rattle.std.specs.Prelude.{◌≡◌, ℕ, List, Option, map}
 use Rattle.std.specs.Io.KnownBytes.{Appends}
 use Rattle.std.specs.List.{flat_map}
 use Rattle.question_commands.specs.Asking.{AreTurns, State, Turn, commits_checked, turn_text}
-use Rattle.question_commands.specs.ReadLines.{HasRead}
-use Rattle.question_commands.specs.Taken.{Opener}
+use Rattle.question_answers.specs.ReadLines.{HasRead}
+use Rattle.question_answers.specs.Taken.{Opener}
 
 -- some turns lead from one state to another; their lines were read, their texts were written, and so many commits were checked
 abbrev pub Proceeds : Opener → State → State → Option (List ℕ) → Option (List ℕ) → Option (List ℕ) → Option (List ℕ) → ℕ

@@ -32,8 +32,8 @@ use Rattle.unchecked_commands.proofs.AnswerLemmas.{told-of_only}
 use Rattle.unchecked_commands.proofs.BasesLemmas.{bases-of_only}
 use Rattle.unchecked_commands.proofs.OnlyGraphLemmas.{so_of_only}
 use Rattle.unchecked_commands.proofs.WalkLemmas.{ids-same, walk-of_only}
-use Rattle.question_commands.specs.Replies.{parent_text}
-use Rattle.question_commands.specs.Taken.{opened_line}
+use Rattle.question_answers.specs.Replies.{parent_text}
+use Rattle.question_answers.specs.Taken.{opened_line}
 use Rattle.unchecked_questions.specs.PartReplies.{reply_text, reported}
 use Rattle.unchecked_questions.specs.Trusting.{AreParentsThere, MayTellByParts}
 use Rattle.unchecked_questions.specs.declared.by_parts.Reply.TheVariants as reply

@@ -4,7 +4,7 @@ use Rattle.std.proofs.KnownBytes.{Appends-nil}
 use Rattle.graph_folder.specs.declared.folder.ReadError.TheVariants.{OutOfMemory}
 use Rattle.graph_commands.specs.OpenerAnswer.{MayOpen}
 use Rattle.question_commands.specs.Asking.{State}
-use Rattle.question_commands.proofs.ReadLemmas.{lines_failed, reads_none}
+use Rattle.question_answers.proofs.ReadLemmas.{lines_failed, reads_none}
 use Rattle.question_commands.proofs.AskingLemmas.{turns_none}
 use Rattle.question_commands.proofs.asking.answer_all.Goals as goal
 

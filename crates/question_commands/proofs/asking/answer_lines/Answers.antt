@@ -3,7 +3,7 @@ use Rattle.std.proofs.Common.{◌≡◌, ◌∙◌, ◌+◌, List, ℕ, Option, 
 use Rattle.std.specs.Io.KnownBytes.{prepend_known}
 use Rattle.std.proofs.KnownBytes.{prepend_known-nil}
 use Rattle.graph_commands.specs.OpenerAnswer.{MayOpen}
-use Rattle.question_commands.specs.Taken.{Opener}
+use Rattle.question_answers.specs.Taken.{Opener}
 use Rattle.question_commands.specs.Asking.{State}
 use Rattle.question_commands.specs.Proceeding.{Proceeds}
 use Rattle.question_commands.proofs.AskingLemmas.{answered_to_end, answered_to_failure}
