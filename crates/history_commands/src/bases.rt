@@ -31,7 +31,7 @@ use graph_commands::refusal::Refusal;
 use graph_commands::run::refuse;
 use graph_commands::status::Status;
 use graph_folder::folder::Folder;
-use graph_history::{Checked, CheckedGraph, Comparison, Divergence};
+use graph_history::{Checked, CheckedGraph, Comparer, Comparison, Divergence};
 use std::alloc::{AllocError, Global};
 use std::io::Write;
 
@@ -193,24 +193,44 @@ fn compare_in(
     ensures refused { IfErr result (λ refusal. (refusal ≡ Refusal.Walk)
         × All (IsThere graph.now.layers) (oid_bytes first.entry ∷ others.now)) }
 {
+    let mut comparer = Comparer::new(alloc, graph);
+    compare_by(alloc, &mut comparer, first, others)
+}
+
+/// Compares the commit with the first id with those with the others, in the graph of a comparer.
+/// The error is `Walk`, where all of them are there and an allocation failed.
+pub fn compare_by(
+    alloc: Global,
+    comparer: &mut Comparer<'_, '_>,
+    first: oid<'_>,
+    others: &[ObjectId],
+) -> Result<Compared, Refusal>
+    ensures found { IfOk result
+        (MayFindOfAll comparer.old.layers (oid_bytes first.entry ∷ others.now)) }
+    ensures within { IfOk result (AreBasesWithin comparer.old.layers) }
+    ensures refused { IfErr result (λ refusal. (refusal ≡ Refusal.Walk)
+        × All (IsThere comparer.old.layers) (oid_bytes first.entry ∷ others.now)) }
+    ensures comparer { comparer.new ≡ comparer.old }
+{
+    let graph = comparer.graph();
     let Some(first) = graph.find(first) else {
         return Ok(Compared::Unknown(1));
     };
     if let Some(place) = find_unknown(graph, others) {
         return Ok(Compared::Unknown(place as u64 + 2));
     }
-    match find_all(alloc, graph, others) {
-        Ok(others) => match graph.compare(alloc, first, &others) {
-            Ok(comparison) => Ok(Compared::Known(comparison)),
-            Err(_) => Err(Refusal::Walk),
-        },
+    let Ok(others) = find_all(alloc, graph, others) else {
+        return Err(Refusal::Walk);
+    };
+    match comparer.compare(first, &others) {
+        Ok(comparison) => Ok(Compared::Known(comparison)),
         Err(_) => Err(Refusal::Walk),
     }
 }
 
 /// The place of the first id that is not in a graph that was checked, if there is one. The first
 /// place is 0.
-pub fn find_unknown(graph: &Checked<'_>, ids: &[ObjectId]) -> Option<usize>
+fn find_unknown(graph: &Checked<'_>, ids: &[ObjectId]) -> Option<usize>
     ensures unknown { IfSome result (λ place. (place < length ids.now)
         × IsFirstUnknown graph.now.layers ids.now place) }
     ensures there { IsNone result → All (IsThere graph.now.layers) ids.now }
@@ -224,7 +244,7 @@ pub fn find_unknown(graph: &Checked<'_>, ids: &[ObjectId]) -> Option<usize>
 }
 
 /// The positions of the commits with these ids, in a graph that was checked and has them all.
-pub fn find_all(
+fn find_all(
     alloc: Global,
     graph: &Checked<'_>,
     ids: &[ObjectId],
@@ -338,14 +358,30 @@ fn write_bases<W: Write>(
     ensures { OnOk result (Appends (W.contents writer.old) (W.contents writer.new)
         (flat_map (merge_base_line graph.now.layers) bases.now)) }
 {
-    for base in bases {
-        push_base(buffer, writer, graph, *base)?;
-    }
+    push_bases(buffer, writer, graph, bases)?;
     buffer.write_out(writer)
 }
 
-/// Adds the line of a base of a graph that was checked. `WriteFailed` comes where the writer fails.
-pub fn push_base<W: Write>(
+/// Adds the lines of bases of a graph that was checked. `WriteFailed` comes where the writer fails.
+pub fn push_bases<W: Write>(
+    buffer: &mut Buffer,
+    writer: &mut W,
+    graph: &Checked<'_>,
+    bases: &[Position],
+) -> Result<(), WriteFailed>
+    requires { All (λ base. base.0 < total graph.now.layers) bases.now }
+    ensures { OnOk result (Appends (with_buffer (W.contents writer.old) buffer.old)
+        (with_buffer (W.contents writer.new) buffer.new)
+        (flat_map (merge_base_line graph.now.layers) bases.now)) }
+{
+    for base in bases {
+        push_base(buffer, writer, graph, *base)?;
+    }
+    Ok(())
+}
+
+/// Adds the line of a base of a graph that was checked.
+fn push_base<W: Write>(
     buffer: &mut Buffer,
     writer: &mut W,
     graph: &Checked<'_>,

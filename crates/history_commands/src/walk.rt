@@ -1,4 +1,5 @@
-//! The command `walk`, and the lines that it writes. Writing them allocates nothing.
+//! The command `walk`, and the lines that it writes. Writing them allocates nothing but a buffer
+//! for the lines of a walk.
 
 ghost use Rattle.std.specs.Prelude.{◌≡◌, ◌<◌, [], All, IfErr, IfOk, OnOk, Ok};
 ghost use Rattle.std.specs.Io.KnownBytes.{Appends};
@@ -28,7 +29,7 @@ use std::alloc::Global;
 use std::io::Write;
 
 /// What is found of the walk from one commit to another, by positions: none where there is no walk.
-type Found = Answer<Option<Vec<Position>>>;
+pub type FoundWalk = Answer<Option<Vec<Position>>>;
 
 /// Looks for a shortest walk along parents from the commit with the first id to the one with the
 /// second, both given in hexadecimal digits of either case, in the graph that the path opens. The
@@ -66,7 +67,7 @@ fn look<T: Folder>(
     path: &str,
     first: &str,
     second: &str,
-) -> Result<(Question, Found), Refusal>
+) -> Result<(Question, FoundWalk), Refusal>
     ensures found { IfOk result (λ looked. MayAnswer IsWalkOfIds first.now second.now
         (folder.new ≡ folder.old)
         (MayOpen (T.tree folder.old) path.now (T.failure_count folder.old)
@@ -92,7 +93,7 @@ fn walk_in(
     graph: &Checked<'_>,
     first: oid<'_>,
     second: oid<'_>,
-) -> Result<Found, Refusal>
+) -> Result<FoundWalk, Refusal>
     requires { IsGraph graph.now.layers }
     ensures found { IfOk result (λ found. MayFindBoth IsWalkOfIds
         graph.now.layers (oid_bytes first.entry) (oid_bytes second.entry)
@@ -119,7 +120,7 @@ fn tell<W: Write>(
     alloc: Global,
     writer: &mut W,
     graph: &Checked<'_>,
-    found: &Found,
+    found: &FoundWalk,
 ) -> Result<u8, WriteFailed>
     requires { AreInGraph graph.now.layers found.now }
     ensures { IfOk result (WritesAnswer walk_text walk_status
@@ -173,16 +174,33 @@ pub(crate) fn write_ids<W: Write>(
     buffer: &mut Buffer,
     writer: &mut W,
     graph: &Checked<'_>,
-    walk: &[Position],
+    positions: &[Position],
 ) -> Result<(), WriteFailed>
     requires empty { buffer.old ≡ [] }
-    requires within { All (λ pos. pos.0 < total graph.now.layers) walk.now }
+    requires within { All (λ pos. pos.0 < total graph.now.layers) positions.now }
     ensures { OnOk result (Appends (W.contents writer.old) (W.contents writer.new)
-        (flat_map (λ pos. id_line (id_in graph.now.layers pos.0)) walk.now)) }
+        (flat_map (λ pos. id_line (id_in graph.now.layers pos.0)) positions.now)) }
 {
-    for pos in walk {
+    push_ids(buffer, writer, graph, positions)?;
+    buffer.write_out(writer)
+}
+
+/// Adds the ids at these positions of a graph that was checked, a line for each. `WriteFailed`
+/// comes where the writer fails.
+pub fn push_ids<W: Write>(
+    buffer: &mut Buffer,
+    writer: &mut W,
+    graph: &Checked<'_>,
+    positions: &[Position],
+) -> Result<(), WriteFailed>
+    requires { All (λ pos. pos.0 < total graph.now.layers) positions.now }
+    ensures { OnOk result (Appends (with_buffer (W.contents writer.old) buffer.old)
+        (with_buffer (W.contents writer.new) buffer.new)
+        (flat_map (λ pos. id_line (id_in graph.now.layers pos.0)) positions.now)) }
+{
+    for pos in positions {
         buffer.push_id(writer, graph.id(*pos))?;
         buffer.push_byte(writer, b'\n')?;
     }
-    buffer.write_out(writer)
+    Ok(())
 }

@@ -7,55 +7,49 @@ use Rattle.std.specs.List.{AllByRecursion, flat_map}
 use Rattle.std.proofs.lemmas.List.{map-append}
 use Rattle.std.proofs.lemmas.List.Concat.{flat_map-append}
 use Rattle.std.proofs.lemmas.List.Sums.{sum_by-append, sum_by-cons}
-use Rattle.std.specs.Prelude.{Bool, true, Result, Ok, Err, IfOk, OnOk, ◌≢◌}
+use Rattle.std.specs.Prelude.{Result, Ok, Err, IfOk, ◌≢◌}
 use Rattle.graph_folder.specs.declared.folder.ReadError.{ReadError}
 use Rattle.graph_folder.specs.declared.folder.ReadError.TheVariants.{NotOpened}
 use Rattle.graph_format.specs.Layer.{Layer}
-use Rattle.graph_commands.specs.Buffer.{with_buffer}
 use Rattle.graph_commands.specs.Text.{newline}
-use Rattle.question_commands.specs.Asking.{AreTurns, MayAsk, MayTurn, Reloads, Session, Standing}
+use Rattle.question_lines.specs.InputLines.{HasNoLine}
+use Rattle.question_lines.specs.Questions.{Asks}
+use Rattle.question_lines.specs.declared.question.Question.TheVariants as question
+use Rattle.question_answers.specs.AnsweredLines.{AnswersOver, MayBeTold, Told, told_text}
+use Rattle.question_answers.specs.ReadLines.{AreLinesOf, HasRead}
+use Rattle.question_answers.specs.Taken.{MayTake, Opener, end_text, end_status, taken_line}
+use Rattle.question_answers.proofs.AnsweredLemmas.{all_append}
+use Rattle.question_answers.proofs.ReadLemmas.{lines_ended, lines_failed, reads_more, reads_none}
+use Rattle.question_answers.proofs.ReplyLemmas.{asks_reload, tells_over}
+use Rattle.question_commands.specs.Asking.{AreTurns, MayAsk, MayTurn, Reloads, Session, State}
 use Rattle.question_commands.specs.Asking.{Turn, all_checked, commits_checked, session_text, turn_text}
-use Rattle.question_commands.specs.Taken.{MayTake, Opener, end_text, end_status, taken_line}
 use Rattle.question_commands.specs.Ending.{EndsAsked}
-use Rattle.question_commands.specs.declared.asking.Asked.{Asked}
-use Rattle.question_commands.specs.InputLines.{HasNoLine, TakesLine}
-use Rattle.question_commands.specs.ReadLines.{AreLinesOf, HasRead}
-use Rattle.question_commands.proofs.ReadLemmas.{lines_ended, lines_failed, reads_line, reads_more, reads_none}
-use Rattle.question_commands.proofs.BufferLemmas.{with_nothing}
 use Rattle.question_commands.specs.Proceeding.{Proceeds}
-use Rattle.question_commands.specs.AnsweredLines.{AnswersOver, MayBeTold, Told, told_text}
-use Rattle.question_commands.specs.Questions.{Asks}
-use Rattle.question_commands.specs.declared.question.Question.TheVariants as question
-use Rattle.question_commands.proofs.ReplyLemmas.{asks_reload, tells_over, told_kept}
-
-all_append : {X : Type 0} (P : X → Type 0) (xs ys : List X) → AllByRecursion P xs → AllByRecursion P ys
-    → AllByRecursion P (xs ++ ys)
-all_append P [] ys first behind = behind
-all_append P (x ∷ xs) ys first behind = (first.0, all_append P xs ys first.1 behind)
+use Rattle.question_commands.specs.declared.asking.Asked.{Asked}
 
 module _ (MayOpen : Opener) where
-  pub turns_none : (first : Standing) → AreTurns MayOpen first first []
+  pub turns_none : (first : State) → AreTurns MayOpen first first []
   turns_none first = record { allowed = tt; joined = refl }
 
   pub one_turn : (turn : Turn) → MayTurn MayOpen turn → AreTurns MayOpen turn.before turn.after (turn ∷ [])
   one_turn turn may = record { allowed = (may, tt); joined = refl }
 
-  pub turns_more : (first middle last : Standing) (turns more : List Turn) → AreTurns MayOpen first middle turns
+  pub turns_more : (first middle last : State) (turns more : List Turn) → AreTurns MayOpen first middle turns
       → AreTurns MayOpen middle last more → AreTurns MayOpen first last (turns ++ more)
   turns_more first middle last turns more are behind = record {
     allowed = all_append (MayTurn MayOpen) turns more are.allowed behind.allowed;
     joined =
-        let before : List Turn → List Standing = map (λ (turn : Turn). turn.before) in
-        let after : List Turn → List Standing = map (λ (turn : Turn). turn.after) in
-        ap (λ (l : List Standing). l ++ last ∷ []) (map-append (λ (turn : Turn). turn.before) turns more)
+        let before : List Turn → List State = map (λ (turn : Turn). turn.before) in
+        let after : List Turn → List State = map (λ (turn : Turn). turn.after) in
+        ap (λ (l : List State). l ++ last ∷ []) (map-append (λ (turn : Turn). turn.before) turns more)
         ∙ append_assoc (before turns) (before more) (last ∷ [])
-        ∙ ap (λ (l : List Standing). before turns ++ l) behind.joined
+        ∙ ap (λ (l : List State). before turns ++ l) behind.joined
         ∙ sym (append_assoc (before turns) (middle ∷ []) (after more))
-        ∙ ap (λ (l : List Standing). l ++ after more) are.joined
-        ∙ ap (λ (l : List Standing). first ∷ l) (sym (map-append (λ (turn : Turn). turn.after) turns more));
+        ∙ ap (λ (l : List State). l ++ after more) are.joined
+        ∙ ap (λ (l : List State). first ∷ l) (sym (map-append (λ (turn : Turn). turn.after) turns more));
   }
 
-  pub proceeds_none : (standing : Standing) (input old : Option (List ℕ))
+  pub proceeds_none : (standing : State) (input old : Option (List ℕ))
       → Proceeds MayOpen standing standing input input old old 0
   proceeds_none standing input old = ([], turns_none standing, reads_none input, Appends-nil old, refl)
 
@@ -70,7 +64,7 @@ module _ (MayOpen : Opener) where
     omega (arith, sum_by-cons (λ (t : Turn). t.checked) turn []),
   )
 
-  pub proceeds_more : (first middle last : Standing) (input read left old written new : Option (List ℕ)) (some more : ℕ)
+  pub proceeds_more : (first middle last : State) (input read left old written new : Option (List ℕ)) (some more : ℕ)
       → Proceeds MayOpen first middle input read old written some → Proceeds MayOpen middle last read left written new more
       → Proceeds MayOpen first last input left old new (some + more)
   proceeds_more first middle last input read left old written new some more before behind =
@@ -84,12 +78,12 @@ module _ (MayOpen : Opener) where
         omega (arith, before.4, behind.4, sum_by-append (λ (t : Turn). t.checked) before.0 behind.0),
       )
 
-module _ (MayOpen : Opener) (first last : Standing) (input left unread old new : Option (List ℕ)) (checked counted : ℕ)
+module _ (MayOpen : Opener) (first last : State) (input left unread old new : Option (List ℕ)) (checked counted : ℕ)
     (proceeds : Proceeds MayOpen first last input left old new checked) (counts : counted ≡ min checked (2 ^ 64 - 1)) where
   -- the lines are answered
   abbrev pub Answered : Option ReadError → ℕ → Type 0
   Answered failed failures =
-      (turns : List Turn) × (end : Standing) × AreTurns MayOpen first end turns × (end.failures ≡ failures)
+      (turns : List Turn) × (end : State) × AreTurns MayOpen first end turns × (end.failures ≡ failures)
       × AreLinesOf input unread (map (λ turn. turn.line) turns) failed × Appends old new (flat_map turn_text turns)
       × (counted ≡ all_checked turns)
 
@@ -108,29 +102,8 @@ module _ (MayOpen : Opener) (first last : Standing) (input left unread old new :
       let asked = map (λ (turn : Turn). turn.line) proceeds.0 in
       (proceeds.0, last, proceeds.1, is, lines_failed input left unread asked error proceeds.2 failed, proceeds.3, counts_all)
 
--- no line was answered over a graph yet
-pub over_none : (layers : List Layer) (input old : Option (List ℕ)) → AnswersOver layers input input old old
-over_none layers input old = ([], tt, reads_none input, Appends-nil old)
-
--- one line more was
-pub over_more : (layers : List Layer) (input read left old written new : Option (List ℕ)) (kept told : List ℕ)
-    → AnswersOver layers input read old written → TakesLine read left kept → MayBeTold layers kept told
-    → Appends written new (told ++ newline) → AnswersOver layers input left old new
-over_more layers input read left old written new kept told before takes may added =
-    let turn : Told = record { line = takes.0; told = told } in
-    let line = λ (t : Told). t.line in (
-      before.0 ++ turn ∷ [],
-      all_append (λ (t : Told). MayBeTold layers t.line t.told) before.0 (turn ∷ []) before.1
-          (told_kept layers takes.0 kept told takes.2 may, tt),
-      subst (HasRead input left) (sym (map-append line before.0 (turn ∷ [])))
-          (reads_more input read left (map line before.0) (takes.0 ∷ []) before.2 (reads_line read left takes.0 takes.1)),
-      subst (Appends old new) (sym (flat_map-append told_text before.0 (turn ∷ [])))
-          (Appends-trans old written new (flat_map told_text before.0) (flat_map told_text (turn ∷ [])) before.3
-          (subst (Appends written new) (sym (append-nil (told_text turn))) added)),
-    )
-
 -- what was answered over the graph that stands are turns, in which nothing is checked
-module _ (MayOpen : Opener) (standing : Standing) where
+module _ (MayOpen : Opener) (standing : State) where
   abbrev turn_of : Told → Turn
   turn_of one = record { line = one.line; before = standing; told = one.told; after = standing; checked = 0 }
 
@@ -168,7 +141,7 @@ module _ (MayOpen : Opener) (standing : Standing) where
   )
 
 -- a line was read that asks for the graph to be opened anew, and it was
-pub reloads_line : (MayOpen : Opener) (before after : Standing) (line told : List ℕ) (checked : ℕ)
+pub reloads_line : (MayOpen : Opener) (before after : State) (line told : List ℕ) (checked : ℕ)
     (read left old new : Option (List ℕ)) → HasRead read left (line ∷ []) → Asks line question.Reload
     → Reloads MayOpen before told checked after → Appends old new (told ++ newline)
     → Proceeds MayOpen before after read left old new checked
@@ -178,7 +151,7 @@ reloads_line MayOpen before after line told checked read left old new reads asks
 
 -- the text of a session was written, and why it ended
 pub asks : (MayOpen : Opener) (before opened after : ℕ) (input unread a b c d : Option (List ℕ)) (layers : List Layer)
-    (turns : List Turn) (last : Standing) (failed : Option ReadError) (asked : Asked) (checked : ℕ)
+    (turns : List Turn) (last : State) (failed : Option ReadError) (asked : Asked) (checked : ℕ)
     → MayTake (MayOpen before opened) (Ok layers)
     → AreTurns MayOpen (record { layers = layers; failures = opened }) last turns → last.failures ≡ after
     → AreLinesOf input unread (map (λ (turn : Turn). turn.line) turns) failed
@@ -206,7 +179,7 @@ asks MayOpen before opened after input unread a b c d layers turns last failed a
 
 -- the same, where the reason was written, if it was
 pub asks_ended : {E : Type 0} (result : Result Asked E) (MayOpen : Opener) (before opened after : ℕ)
-    (input unread a b c d : Option (List ℕ)) (layers : List Layer) (turns : List Turn) (last : Standing)
+    (input unread a b c d : Option (List ℕ)) (layers : List Layer) (turns : List Turn) (last : State)
     (failed : Option ReadError) (checked : ℕ) → MayTake (MayOpen before opened) (Ok layers)
     → AreTurns MayOpen (record { layers = layers; failures = opened }) last turns → last.failures ≡ after
     → AreLinesOf input unread (map (λ (turn : Turn). turn.line) turns) failed
@@ -221,17 +194,3 @@ asks_ended (Ok asked) MayOpen before opened after input unread a b c d layers tu
 asks_ended (Err error) MayOpen before opened after input unread a b c d layers turns last failed checked takes are is read first
     middle counts end =
     tt
-
--- an answer and an empty line were written, if they were
-pub finishes : {E : Type 0} (result : Result Bool E) (layers : List Layer) (line text buffer : List ℕ)
-    (old middle new : Option (List ℕ)) → MayBeTold layers line text → buffer ≡ [] → Appends (with_buffer old buffer) middle text
-    → OnOk result (Appends middle new newline)
-    → IfOk result (λ (told : Bool). told ≡ true
-    → (text : List ℕ) × MayBeTold layers line text × Appends old new (text ++ newline))
-finishes (Ok told) layers line text buffer old middle new may none added written = λ is.
-    let begun : Appends old middle text =
-    subst (λ (front : Option (List ℕ)). Appends front middle text)
-    (ap (λ (b : List ℕ). with_buffer old b) none ∙ with_nothing old)
-    added in
-    (text, may, Appends-trans old middle new text newline begun written)
-finishes (Err failed) layers line text buffer old middle new may none added written = tt

@@ -9,22 +9,22 @@ use Rattle.graph_commands.specs.Text.{◌⧺◌, newline}
 use Rattle.graph_commands.specs.declared.refusal.Refusal.{Refusal}
 use Rattle.graph_history.specs.Reload.{StandAboveShared}
 use Rattle.history_commands.specs.Check.{MayRefuseToStart}
-use Rattle.question_commands.specs.ReadLines.{AreLinesOf}
-use Rattle.question_commands.specs.Replies.{HasWords, MayTellFor}
-use Rattle.question_commands.specs.Taken.{MayTake, Opener, end_status, end_text, taken_line}
-use Rattle.question_commands.specs.declared.question.Name.TheVariants.{Reload}
+use Rattle.question_answers.specs.ReadLines.{AreLinesOf}
+use Rattle.question_answers.specs.Replies.{HasWords, MayTellFor}
+use Rattle.question_answers.specs.Taken.{MayTake, Opener, end_status, end_text, taken_line}
+use Rattle.question_lines.specs.declared.question.Name.TheVariants.{Reload}
 
--- What stands between two lines: the graph that answers, and how many reads of the folder's device have failed.
-pub record Standing : Type 0 where
+-- The state between two lines: the graph that answers, and how many reads of the folder's device have failed.
+pub record State : Type 0 where
   pub layers : List Layer
   pub failures : ℕ
 
--- A line, what stood when it was answered, what was told for it, what has stood since, and how many commits were checked for it.
+-- A line, the state before it, what was told for it, the state after it, and how many commits were checked for it.
 pub record Turn : Type 0 where
   pub line : List ℕ
-  pub before : Standing
+  pub before : State
   pub told : List ℕ
-  pub after : Standing
+  pub after : State
   pub checked : ℕ
 
 -- the graph that stands then: the new one, or where that was refused the one that stood before
@@ -39,7 +39,7 @@ AreChecked before (Ok layers) checked = StandAboveShared before layers checked
 AreChecked before (Err refusal) checked = checked ≡ 0
 
 -- a path is opened anew, its line is told, and so many commits are checked
-abbrev pub Reloads : Opener → Standing → List ℕ → ℕ → Standing → Type 0
+abbrev pub Reloads : Opener → State → List ℕ → ℕ → State → Type 0
 Reloads MayOpen before told checked after =
     (taken : Result (List Layer) Refusal) × MayTake (MayOpen before.failures after.failures) taken × (told ≡ taken_line taken)
     × (after.layers ≡ layers_after before.layers taken) × AreChecked before.layers taken checked
@@ -51,9 +51,8 @@ MayTurn MayOpen turn =
     (MayTellFor turn.before.layers turn.line turn.told × (turn.after ≡ turn.before) × (turn.checked ≡ 0))
     ⊎ (HasWords turn.line Reload [] × Reloads MayOpen turn.before turn.told turn.checked turn.after)
 
--- Turns lead from one standing to another: each of them may be so, and what stood before it is what has stood since the one
--- before.
-pub record AreTurns (MayOpen : Opener) (first last : Standing) (turns : List Turn) : Type 0 where
+-- Turns lead from one state to another: each of them may be so, and the state before it is the one after the turn before it.
+pub record AreTurns (MayOpen : Opener) (first last : State) (turns : List Turn) : Type 0 where
   pub allowed : AllByRecursion (MayTurn MayOpen) turns
   pub joined : map (λ turn. turn.before) turns ++ last ∷ [] ≡ first ∷ map (λ turn. turn.after) turns
 

@@ -1,12 +1,4 @@
-pub mod Places
-pub mod InputLines
-pub mod ReadLines
-pub mod Questions
-pub mod WordsLeft
-pub mod Replies
-pub mod Taken
 pub mod TakenAnew
-pub mod AnsweredLines
 pub mod Asking
 pub mod Ending
 pub mod Proceeding

@@ -2,12 +2,12 @@
 use Rattle.std.specs.Prelude.{◌≡◌, ℕ, List, Option, map}
 use Rattle.std.specs.Io.KnownBytes.{Appends}
 use Rattle.std.specs.List.{flat_map}
-use Rattle.question_commands.specs.Asking.{AreTurns, Standing, Turn, commits_checked, turn_text}
-use Rattle.question_commands.specs.ReadLines.{HasRead}
-use Rattle.question_commands.specs.Taken.{Opener}
+use Rattle.question_commands.specs.Asking.{AreTurns, State, Turn, commits_checked, turn_text}
+use Rattle.question_answers.specs.ReadLines.{HasRead}
+use Rattle.question_answers.specs.Taken.{Opener}
 
--- some turns lead from one standing to another; their lines were read, their texts were written, and so many commits were checked
-abbrev pub Proceeds : Opener → Standing → Standing → Option (List ℕ) → Option (List ℕ) → Option (List ℕ) → Option (List ℕ) → ℕ
+-- some turns lead from one state to another; their lines were read, their texts were written, and so many commits were checked
+abbrev pub Proceeds : Opener → State → State → Option (List ℕ) → Option (List ℕ) → Option (List ℕ) → Option (List ℕ) → ℕ
     → Type 0
 Proceeds MayOpen first last input left old new checked =
     (turns : List Turn) × AreTurns MayOpen first last turns × HasRead input left (map (λ turn. turn.line) turns)

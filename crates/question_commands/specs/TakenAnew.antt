@@ -14,7 +14,7 @@ use Rattle.graph_commands.specs.OpenerAnswer.{OpensAs}
 use Rattle.graph_commands.specs.declared.refusal.Refusal.{Refusal}
 use Rattle.graph_commands.specs.declared.refusal.Refusal.TheVariants.{Open, Verify}
 use Rattle.graph_history.specs.Reload.{StandAboveShared}
-use Rattle.question_commands.specs.Taken.{MayTake}
+use Rattle.question_answers.specs.Taken.{MayTake}
 
 -- what came of it: a right graph stands then, and so many commits were checked, those above the lowest layers that are the same
 -- in the graph that stood, byte for byte; or it is refused, and the one of before stands

@@ -1,30 +1,27 @@
 //! The command `ask`: many questions about the graph at a path, one a line.
 
-ghost use Rattle.std.specs.Prelude.{◌≡◌, [], ℕ, List, Option, Ok, IfOk, OnOk, map, true, false};
-ghost use Rattle.std.specs.Io.KnownBytes.{Appends, prepend_known};
+ghost use Rattle.std.specs.Prelude.{◌≡◌, [], ℕ, List, Ok, IfOk, OnOk, map};
+ghost use Rattle.std.specs.Io.KnownBytes.{Appends};
 ghost use Rattle.std.specs.List.{flat_map};
 ghost use Rattle.graph_commands.specs.OpenerAnswer.{MayOpen};
 ghost use Rattle.graph_commands.specs.Text.{◌⧺◌, newline};
 ghost use Rattle.graph_history.specs.RightGraph.{plain_options};
-ghost use Rattle.question_commands.specs.AnsweredLines.{AnswersOver, MayBeTold, StopsAt};
-ghost use Rattle.question_commands.specs.Asking.{AreTurns, MayAsk, Reloads, all_checked};
-ghost use Rattle.question_commands.specs.Asking.{Standing, Turn, turn_text};
+ghost use Rattle.question_answers.specs.ReadLines.{AreLinesOf};
+ghost use Rattle.question_answers.specs.Taken.{end_text, end_status, taken_line};
+ghost use Rattle.question_commands.specs.Asking.{AreTurns, MayAsk, Reloads, State, Turn};
+ghost use Rattle.question_commands.specs.Asking.{all_checked, turn_text};
 ghost use Rattle.question_commands.specs.Ending.{EndsAsked};
-ghost use Rattle.question_commands.specs.Questions.{Asks};
-ghost use Rattle.question_commands.specs.ReadLines.{AreLinesOf};
-ghost use Rattle.question_commands.specs.Taken.{end_text, end_status, taken_line};
 
-use crate::lines::LineReader;
-use crate::question::{Question, read_question};
 use crate::taking::take_anew;
-use crate::telling::Teller;
-use crate::turn::{end, finish, write_count, write_refused};
 use graph_commands::buffer::Buffer;
 use graph_commands::line::WriteFailed;
 use graph_commands::run::refuse;
 use graph_folder::folder::{Folder, ReadError};
 use graph_history::CheckedGraph;
 use history_commands::opening::open_checked;
+use question_answers::answering::{Next, answer_over};
+use question_answers::turn::{end, write_count, write_refused};
+use question_lines::lines::LineReader;
 use std::alloc::Global;
 use std::io::{Read, Write};
 
@@ -119,7 +116,7 @@ fn answer_all<R: Read, T: Folder, W: Write>(
     graph: CheckedGraph,
 ) -> Result<Ended, WriteFailed>
     requires options { graph.options ≡ plain_options }
-    ensures answered { IfOk result (λ ended. (turns : List Turn) × (last : Standing)
+    ensures answered { IfOk result (λ ended. (turns : List Turn) × (last : State)
         × AreTurns (MayOpen (T.tree folder.old) path.now)
         (record { layers = graph.layers; failures = T.failure_count folder.old }) last turns
         × (last.failures ≡ T.failure_count folder.new)
@@ -162,7 +159,7 @@ fn answer_lines<R: Read, T: Folder, W: Write>(
     requires lines { lines.old.ahead ≡ [] }
     requires buffer { buffer.old ≡ [] }
     requires options { graph.options ≡ plain_options }
-    ensures answered { IfOk result (λ ended. (turns : List Turn) × (last : Standing)
+    ensures answered { IfOk result (λ ended. (turns : List Turn) × (last : State)
         × AreTurns (MayOpen (T.tree folder.old) path.now)
         (record { layers = graph.layers; failures = T.failure_count folder.old }) last turns
         × (last.failures ≡ T.failure_count folder.new)
@@ -227,86 +224,6 @@ fn reload<T: Folder, W: Write>(
         Err(refusal) => {
             write_refused(writer, &refusal)?;
             Ok(0)
-        }
-    }
-}
-
-/// Why lines are no longer answered over a graph.
-#[derive(Drop)]
-pub enum Next {
-    /// There is no line any more.
-    End,
-    /// No line could be read.
-    Failed(ReadError),
-    /// A line asks for the graph to be opened anew.
-    Reload,
-}
-
-/// Answers lines over a graph, until none is left, or one asks for the graph to be opened anew.
-/// Each answer ends with an empty line, and is flushed with it. `WriteFailed` comes where the
-/// writer fails.
-pub fn answer_over<R: Read, W: Write>(
-    alloc: Global,
-    graph: &CheckedGraph,
-    lines: &mut LineReader,
-    reader: &mut R,
-    buffer: &mut Buffer,
-    writer: &mut W,
-) -> Result<Next, WriteFailed>
-    requires { buffer.old ≡ [] }
-    ensures answered { IfOk result (λ next. (left : Option (List ℕ))
-        × AnswersOver graph.now.layers (prepend_known lines.old.ahead (R.remaining reader.old)) left
-        (W.contents writer.old) (W.contents writer.new)
-        × StopsAt left (prepend_known lines.new.ahead (R.remaining reader.new)) next) }
-    ensures buffer { OnOk result (buffer.new ≡ []) }
-{
-    let graph = graph.as_checked();
-    let mut teller = Teller::new(alloc, &graph);
-    for _ in 0..u64::MAX {
-        let more = match lines.read(reader) {
-            Ok(more) => more,
-            Err(error) => return Ok(Next::Failed(error)),
-        };
-        if !more {
-            return Ok(Next::End);
-        }
-        if !answer(alloc, &mut teller, lines.line(), buffer, writer)? {
-            return Ok(Next::Reload);
-        }
-    }
-    Ok(Next::Failed(ReadError::Device))
-}
-
-/// Answers a line, unless it asks for the graph to be opened anew; and answers whether it does not.
-fn answer<W: Write>(
-    alloc: Global,
-    teller: &mut Teller<'_, '_>,
-    line: &[u8],
-    buffer: &mut Buffer,
-    writer: &mut W,
-) -> Result<bool, WriteFailed>
-    requires { buffer.old ≡ [] }
-    ensures told { IfOk result (λ told. told ≡ true → (text : List ℕ)
-        × MayBeTold teller.old line.now text
-        × Appends (W.contents writer.old) (W.contents writer.new) (text ⧺ newline)) }
-    ensures reload { IfOk result (λ told. told ≡ false → Asks line.now Question.Reload
-        × (writer.new ≡ writer.old)) }
-    ensures buffer { OnOk result (buffer.new ≡ []) }
-    ensures teller { teller.new ≡ teller.old }
-{
-    match read_question(alloc, line) {
-        Ok(Some(Question::Reload)) => Ok(false),
-        Ok(Some(question)) => {
-            teller.tell(&question, buffer, writer)?;
-            finish(buffer, writer)
-        }
-        Ok(None) => {
-            buffer.push_text(writer, "refused question\n")?;
-            finish(buffer, writer)
-        }
-        Err(_) => {
-            buffer.push_text(writer, "refused walk\n")?;
-            finish(buffer, writer)
         }
     }
 }

@@ -29,9 +29,10 @@ use graph_layer::opening::{open_layer, read_file};
 use std::alloc::{AllocError, Global};
 
 /// Opens the graph at the path anew, and puts it in the place of the one that stands, unless it is
-/// refused. Where its lowest layers are those of the graph that stands, these are not checked
-/// again; and where they are all of these, they are compared with their files, and stay. It answers
-/// how many commits were checked.
+/// refused. It answers how many commits were checked.
+///
+/// Its lowest layers are not checked again as far as they are those of the graph that stands. If
+/// all layers of that graph are among them, these are only compared with their files, and stay.
 ///
 /// # Errors
 ///
@@ -110,8 +111,8 @@ fn take_chain<T: Folder>(
     take_opened(alloc, opened, graph)
 }
 
-/// Puts these layers on top, if there are some, and answers what came of it. It answers nothing
-/// where all layers are to be opened anew, also where they make no graph with those below.
+/// Puts these layers on top of the graph, and answers what came of it; or `None`, where all layers
+/// are to be opened anew: no layers are given, or they make no graph with those below.
 fn put_above(
     alloc: Global,
     above: Option<Vec<File>>,
@@ -294,7 +295,7 @@ fn is_name_of(alloc: Global, path: &str, line: &[u8], file: &File) -> Result<boo
     Ok(at.as_str() == file.path())
 }
 
-/// The layers that the lines name which are left behind those of the layers that stand.
+/// The layers that the lines name which come after those of the layers that stand.
 fn open_rest<T: Folder>(
     alloc: Global,
     folder: &mut T,

@@ -1,13 +1,11 @@
 //! Tests of commands that no run of a program can be: folders and memory that fail at one call,
-//! files that change between two reads, reads that are counted, and writers that are flushed.
+//! files that change between two reads, and reads that are counted.
 //!
 //! What the programs answer is tested by the tables of `scripts/real_data`. [`fixtures`] has the
 //! folder of graphs that the commands are asked about, and [`watched`] folders that count what is
 //! asked of them, that change, and that find no memory.
 #![tactic(auto)]
 
-#[cfg(test)]
-mod asking;
 #[cfg(test)]
 mod failing;
 #[cfg(test)]

@@ -32,13 +32,13 @@ use Rattle.unchecked_commands.proofs.AnswerLemmas.{told-of_only}
 use Rattle.unchecked_commands.proofs.BasesLemmas.{bases-of_only}
 use Rattle.unchecked_commands.proofs.OnlyGraphLemmas.{so_of_only}
 use Rattle.unchecked_commands.proofs.WalkLemmas.{ids-same, walk-of_only}
-use Rattle.question_commands.specs.Replies.{parent_text}
-use Rattle.question_commands.specs.Taken.{opened_line}
+use Rattle.question_answers.specs.Replies.{parent_text}
+use Rattle.question_answers.specs.Taken.{opened_line}
 use Rattle.unchecked_questions.specs.PartReplies.{reply_text, reported}
 use Rattle.unchecked_questions.specs.Trusting.{AreParentsThere, MayTellByParts}
 use Rattle.unchecked_questions.specs.declared.by_parts.Reply.TheVariants as reply
-use Rattle.question_commands.specs.declared.question.Question.{Question}
-use Rattle.question_commands.specs.declared.question.Question.TheVariants as question
+use Rattle.question_lines.specs.declared.question.Question.{Question}
+use Rattle.question_lines.specs.declared.question.Question.TheVariants as question
 
 -- what is reported of a commit is what is stored of it
 be-found : (layers : List Layer) (id : List ℕ) (found : Option (Position × StoredCommit)) → IsCommitFound id layers found

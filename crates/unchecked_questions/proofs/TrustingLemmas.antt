@@ -15,20 +15,20 @@ use Rattle.graph_commands.specs.Buffer.{with_buffer}
 use Rattle.graph_commands.specs.Text.{newline}
 use Rattle.graph_commands.specs.WrittenAnswer.{WritesAnswer, WritesRefusal}
 use Rattle.graph_commands.specs.declared.refusal.Refusal.{Refusal}
-use Rattle.question_commands.specs.AnsweredLines.{AnswersOver, MayBeTold, StopsAt, Told, told_text}
-use Rattle.question_commands.specs.Taken.{MayTake, Opener, end_status, end_text, opened_line}
-use Rattle.question_commands.specs.InputLines.{HasNoLine, IsKeptAs, TakesLine}
+use Rattle.question_answers.specs.AnsweredLines.{AnswersOver, MayBeTold, StopsAt, Told, told_text}
+use Rattle.question_answers.specs.Taken.{MayTake, Opener, end_status, end_text, opened_line}
+use Rattle.question_lines.specs.InputLines.{HasNoLine, IsKeptAs, TakesLine}
 use Rattle.unchecked_questions.specs.PartReplies.{AddsTold}
 use Rattle.unchecked_questions.specs.TrustedLines.{AreAnswered}
-use Rattle.question_commands.specs.ReadLines.{AreLinesOf, HasRead}
-use Rattle.question_commands.specs.Questions.{Asks}
+use Rattle.question_answers.specs.ReadLines.{AreLinesOf, HasRead}
+use Rattle.question_lines.specs.Questions.{Asks}
 use Rattle.unchecked_questions.specs.Trusting.{AreTold, MayAskTrusted, MayCount, MayTellAsked, MayTellCount, MayTellTrusted}
 use Rattle.unchecked_questions.specs.Trusting.{TellsOfTaken, TrustedSession, trusted_status, trusted_text}
-use Rattle.question_commands.specs.declared.asking.Next.{Next}
-use Rattle.question_commands.specs.declared.question.Question.{Question}
-use Rattle.question_commands.specs.declared.question.Question.TheVariants as question
-use Rattle.question_commands.proofs.ReadLemmas.{lines_ended, lines_failed, reads_line, reads_more, reads_none}
-use Rattle.question_commands.proofs.BufferLemmas.{with_nothing}
+use Rattle.question_answers.specs.declared.answering.Next.{Next}
+use Rattle.question_lines.specs.declared.question.Question.{Question}
+use Rattle.question_lines.specs.declared.question.Question.TheVariants as question
+use Rattle.question_answers.proofs.ReadLemmas.{lines_ended, lines_failed, reads_line, reads_more, reads_none}
+use Rattle.question_answers.proofs.BufferLemmas.{with_nothing}
 
 -- what is told for what is kept of a line is told for the line
 told_kept : (MayOpen : Opener) (before after : ℕ) (line kept told : List ℕ) → IsKeptAs line kept

@@ -2,9 +2,9 @@
 use Rattle.std.specs.Prelude.{ℕ, List, Option, map}
 use Rattle.std.specs.Io.KnownBytes.{Appends}
 use Rattle.std.specs.List.{flat_map}
-use Rattle.question_commands.specs.AnsweredLines.{Told, told_text}
-use Rattle.question_commands.specs.ReadLines.{HasRead}
-use Rattle.question_commands.specs.Taken.{Opener}
+use Rattle.question_answers.specs.AnsweredLines.{Told, told_text}
+use Rattle.question_answers.specs.ReadLines.{HasRead}
+use Rattle.question_answers.specs.Taken.{Opener}
 use Rattle.unchecked_questions.specs.Trusting.{AreTold}
 
 -- lines of known bytes were read and told, while the count of failed reads went from one number to another, and these bytes are

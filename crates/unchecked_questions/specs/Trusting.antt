@@ -19,13 +19,13 @@ use Rattle.unchecked_commands.specs.UncheckedAncestor.{IsYesSo}
 use Rattle.unchecked_commands.specs.UncheckedAnswer.{IsFoundUnchecked}
 use Rattle.unchecked_commands.specs.UncheckedBases.{IsToldByParts, told_bases_text}
 use Rattle.unchecked_commands.specs.UncheckedWalk.{IsWalkThere}
-use Rattle.question_commands.specs.AnsweredLines.{Told, told_text}
-use Rattle.question_commands.specs.Questions.{Asks, AsksForBases, AsksNothing, question_ids, question_name}
-use Rattle.question_commands.specs.ReadLines.{AreLinesOf}
-use Rattle.question_commands.specs.declared.question.Question.{Question}
-use Rattle.question_commands.specs.declared.question.Question.TheVariants.{Find, IsAncestor, Walk, MergeBase, Parents, Reload}
-use Rattle.question_commands.specs.Replies.{TellsOfIds, parent_ids_at, parents_line, refused_line}
-use Rattle.question_commands.specs.Taken.{MayTake, Opener, opened_line, end_status, end_text}
+use Rattle.question_answers.specs.AnsweredLines.{Told, told_text}
+use Rattle.question_lines.specs.Questions.{Asks, AsksForBases, AsksNothing, question_ids, question_name}
+use Rattle.question_answers.specs.ReadLines.{AreLinesOf}
+use Rattle.question_lines.specs.declared.question.Question.{Question}
+use Rattle.question_lines.specs.declared.question.Question.TheVariants.{Find, IsAncestor, Walk, MergeBase, Parents, Reload}
+use Rattle.question_answers.specs.Replies.{TellsOfIds, parent_ids_at, parents_line, refused_line}
+use Rattle.question_answers.specs.Taken.{MayTake, Opener, opened_line, end_status, end_text}
 
 -- the ids of the parents of the commit with an id, at a position where a lookup finds it; or that it finds none
 abbrev pub AreParentsThere : List ℕ → List Layer → Option (List (List ℕ)) → Type 0

@@ -14,7 +14,7 @@ ghost use Rattle.unchecked_commands.specs.UncheckedBases.{line_of_told, lines_or
 ghost use Rattle.unchecked_commands.specs.UncheckedBases.{told_among, told_bases_text};
 ghost use Rattle.unchecked_commands.specs.UncheckedWalk.{listed_walk};
 ghost use Rattle.unchecked_questions.specs.PartReplies.{reply_text, reported};
-ghost use Rattle.question_commands.specs.Replies.{parents_line};
+ghost use Rattle.question_answers.specs.Replies.{parents_line};
 ghost use Rattle.unchecked_questions.specs.Trusting.{MayTellByParts};
 
 use gix_commitgraph::Position;
@@ -27,8 +27,8 @@ use graph_parts::parts::StoredCommit;
 use graph_unchecked::question::{Among, Between, IdComparison, Unread};
 use graph_unchecked::trusted::TrustedGraph;
 use history_commands::bases::push_line_of_base;
-use question_commands::question::Question;
-use question_commands::telling::{push_counts, push_found};
+use question_answers::telling::{push_counts, push_found};
+use question_lines::question::Question;
 use std::io::Write;
 
 /// What is read by parts for a question.

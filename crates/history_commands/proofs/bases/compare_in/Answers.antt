@@ -1,26 +1,5 @@
--- The first id is there, and the others are or are not.
-use Rattle.std.proofs.Common.{refl, sym}
-use Rattle.std.proofs.lemmas.List.Elements.{All-cons}
-use Rattle.gix_hash_core.specs.Oid.{oid_bytes}
-use Rattle.graph_commands.specs.Ancestor.{IsThere}
-use Rattle.history_commands.proofs.BasesLemmas.{unknown_later}
+-- The comparer has the graph.
 use Rattle.history_commands.proofs.bases.compare_in.Goals as goal
 
-pub returns-in-Some-find_unknown-clause-found : goal.returns-in-Some-find_unknown-clause-found
-returns-in-Some-find_unknown-clause-found c =
-    unknown_later c.args.graph.now.layers (oid_bytes c.args.first) c.args.others.now c.in-Some.first.0
-    c.in-Some-find_unknown.place (sym c.in-Some.ensures.scanned) c.in-Some-find_unknown.ensures.unknown.1
-
-pub returns-in-Ok-clause-refused : goal.returns-in-Ok-clause-refused
-returns-in-Ok-clause-refused c = (
-  refl,
-  All-cons (IsThere c.args.graph.now.layers) (oid_bytes c.args.first) c.args.others.now
-      (c.in-Some.first.0, sym c.in-Some.ensures.scanned) (c.in_default-find_unknown.ensures.there refl),
-)
-
 pub returns-clause-refused : goal.returns-clause-refused
-returns-clause-refused c = (
-  refl,
-  All-cons (IsThere c.args.graph.now.layers) (oid_bytes c.args.first) c.args.others.now
-      (c.in-Some.first.0, sym c.in-Some.ensures.scanned) (c.in_default-find_unknown.ensures.there refl),
-)
+returns-clause-refused c = rw c.new-comparer.ensures at c.compare_by.ensures.refused

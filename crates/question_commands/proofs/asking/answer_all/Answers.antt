@@ -3,14 +3,14 @@ use Rattle.std.proofs.Common.{[], refl}
 use Rattle.std.proofs.KnownBytes.{Appends-nil}
 use Rattle.graph_folder.specs.declared.folder.ReadError.TheVariants.{OutOfMemory}
 use Rattle.graph_commands.specs.OpenerAnswer.{MayOpen}
-use Rattle.question_commands.specs.Asking.{Standing}
-use Rattle.question_commands.proofs.ReadLemmas.{lines_failed, reads_none}
+use Rattle.question_commands.specs.Asking.{State}
+use Rattle.question_answers.proofs.ReadLemmas.{lines_failed, reads_none}
 use Rattle.question_commands.proofs.AskingLemmas.{turns_none}
 use Rattle.question_commands.proofs.asking.answer_all.Goals as goal
 
 pub returns-in_default-clause-answered : goal.returns-in_default-clause-answered
 returns-in_default-clause-answered g c =
-    let first : Standing =
+    let first : State =
     record { layers = c.args.graph.layers; failures = g.T.Folder.failure_count c.args.folder.now } in
     let input = g.R.Read.remaining c.args.reader.now in (
       [],

@@ -3,8 +3,8 @@ use Rattle.std.proofs.Common.{◌≡◌, ◌∙◌, ◌+◌, List, ℕ, Option, 
 use Rattle.std.specs.Io.KnownBytes.{prepend_known}
 use Rattle.std.proofs.KnownBytes.{prepend_known-nil}
 use Rattle.graph_commands.specs.OpenerAnswer.{MayOpen}
-use Rattle.question_commands.specs.Taken.{Opener}
-use Rattle.question_commands.specs.Asking.{Standing}
+use Rattle.question_answers.specs.Taken.{Opener}
+use Rattle.question_commands.specs.Asking.{State}
 use Rattle.question_commands.specs.Proceeding.{Proceeds}
 use Rattle.question_commands.proofs.AskingLemmas.{answered_to_end, answered_to_failure}
 use Rattle.question_commands.proofs.AskingLemmas.{proceeds_more, proceeds_none, proceeds_over, reloads_line}
@@ -15,7 +15,7 @@ loop-init g c =
     let input = g.R.Read.remaining c.args.reader.now in
     let old = g.W.Write.contents c.args.writer.now in
     let opens : Opener = MayOpen (g.T.Folder.tree c.args.folder.now) c.args.path.now in
-    let first : Standing =
+    let first : State =
     record { layers = c.args.graph.layers; failures = g.T.Folder.failure_count c.args.folder.now } in
     let same : prepend_known c.args.lines.now.ahead input ≡ input =
     ap (λ (ahead : List ℕ). prepend_known ahead input) c.requires.lines ∙ prepend_known-nil input in
@@ -36,7 +36,7 @@ returns-in-End-clause-answered g c =
     let tree = g.T.Folder.tree c.args.folder.now in
     let opens : Opener = MayOpen tree c.args.path.now in
     let failures = g.T.Folder.failure_count c.loop.folder in
-    let standing : Standing = record { layers = c.loop.graph.layers; failures = failures } in
+    let standing : State = record { layers = c.loop.graph.layers; failures = failures } in
     let over = c.in_ok-next.ensures.answered in
     let turns = proceeds_over opens standing _ over.0 _ _ over.1 in
     let end = rw c.in-End.is at over.2 in
@@ -50,7 +50,7 @@ returns-in-Failed-clause-answered g c =
     let tree = g.T.Folder.tree c.args.folder.now in
     let opens : Opener = MayOpen tree c.args.path.now in
     let failures = g.T.Folder.failure_count c.loop.folder in
-    let standing : Standing = record { layers = c.loop.graph.layers; failures = failures } in
+    let standing : State = record { layers = c.loop.graph.layers; failures = failures } in
     let over = c.in_ok-next.ensures.answered in
     let turns = proceeds_over opens standing _ over.0 _ _ over.1 in
     let failed = rw c.in-Failed.is at over.2 in
@@ -64,8 +64,8 @@ loop-preserved g c =
     let tree = g.T.Folder.tree c.args.folder.now in
     let opens : Opener = MayOpen tree c.args.path.now in
     let failures = g.T.Folder.failure_count c.loop.folder in
-    let standing : Standing = record { layers = c.loop.graph.layers; failures = failures } in
-    let after : Standing =
+    let standing : State = record { layers = c.loop.graph.layers; failures = failures } in
+    let after : State =
     record { layers = c.reload.new.graph.layers; failures = g.T.Folder.failure_count c.reload.new.folder } in
     let over = c.in_ok-next.ensures.answered in
     let turns = proceeds_over opens standing _ over.0 _ _ over.1 in

@@ -1,7 +1,7 @@
 -- The new graph stands, or the one before.
 use Rattle.std.proofs.Common.{refl}
 use Rattle.std.specs.Prelude.{Ok, Err}
-use Rattle.question_commands.specs.Taken.{taken_line}
+use Rattle.question_answers.specs.Taken.{taken_line}
 use Rattle.question_commands.proofs.asking.reload.Goals as goal
 
 pub returns-in_ok-write_taken-in-Ok-clause-told : goal.returns-in_ok-write_taken-in-Ok-clause-told

@@ -2,7 +2,7 @@
 use Rattle.std.proofs.Common.{refl}
 use Rattle.std.specs.Prelude.{Err}
 use Rattle.graph_commands.specs.OpenerAnswer.{MayOpen}
-use Rattle.question_commands.specs.Taken.{Opener}
+use Rattle.question_answers.specs.Taken.{Opener}
 use Rattle.question_commands.proofs.AskingLemmas.{asks_ended}
 use Rattle.question_commands.proofs.asking.run_ask.Goals as goal
 

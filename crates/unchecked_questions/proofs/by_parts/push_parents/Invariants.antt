@@ -4,7 +4,7 @@ use Rattle.std.specs.Prelude.{codes}
 use Rattle.std.specs.Io.KnownBytes.{Appends}
 use Rattle.std.specs.List.{flat_map}
 use Rattle.graph_commands.specs.Buffer.{with_buffer}
-use Rattle.question_commands.specs.Replies.{parent_text}
+use Rattle.question_answers.specs.Replies.{parent_text}
 use Rattle.unchecked_questions.proofs.by_parts.push_parents.Given as goal
 
 abbrev pub invariant-loop-parent : goal.invariant-loop-parent

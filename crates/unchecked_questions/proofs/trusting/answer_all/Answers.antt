@@ -2,7 +2,7 @@
 use Rattle.std.proofs.Common.{[], refl}
 use Rattle.std.proofs.KnownBytes.{Appends-nil}
 use Rattle.graph_folder.specs.declared.folder.ReadError.TheVariants.{OutOfMemory}
-use Rattle.question_commands.proofs.ReadLemmas.{lines_failed, reads_none}
+use Rattle.question_answers.proofs.ReadLemmas.{lines_failed, reads_none}
 use Rattle.unchecked_questions.proofs.trusting.answer_all.Goals as goal
 
 pub returns-in_default-clause-answered : goal.returns-in_default-clause-answered

@@ -1,7 +1,7 @@
 -- What the check finds may be told, and the graph may stay.
 use Rattle.std.proofs.Common.{inr, refl}
 use Rattle.std.specs.Prelude.{Ok, Err}
-use Rattle.question_commands.specs.Taken.{opened_line}
+use Rattle.question_answers.specs.Taken.{opened_line}
 use Rattle.unchecked_questions.proofs.TrustingLemmas.{adds_line}
 use Rattle.unchecked_questions.proofs.trusting.answer_checked.Goals as goal
 

@@ -1,10 +1,10 @@
 -- One line after another is answered, or all over a graph that was checked.
 use Rattle.std.proofs.Common.{◌∙◌, refl}
 use Rattle.graph_commands.specs.OpenerAnswer.{MayOpen}
-use Rattle.question_commands.specs.Taken.{Opener}
-use Rattle.question_commands.specs.declared.question.Question.TheVariants.{Reload}
-use Rattle.question_commands.proofs.ReadLemmas.{reads_line}
-use Rattle.question_commands.proofs.ReplyLemmas.{asks_kept}
+use Rattle.question_answers.specs.Taken.{Opener}
+use Rattle.question_lines.specs.declared.question.Question.TheVariants.{Reload}
+use Rattle.question_answers.proofs.ReadLemmas.{reads_line}
+use Rattle.question_answers.proofs.ReplyLemmas.{asks_kept}
 use Rattle.unchecked_questions.proofs.TrustingLemmas.{answered_line, answered_more, answered_none, answered_over}
 use Rattle.unchecked_questions.proofs.trusting.answer_kept.Goals as goal
 

@@ -2,8 +2,8 @@
 use Rattle.std.proofs.Common.{inl, inr, refl}
 use Rattle.std.specs.Prelude.{Err}
 use Rattle.graph_commands.specs.declared.refusal.Refusal.TheVariants.{Walk}
-use Rattle.question_commands.specs.Replies.{refused_line}
-use Rattle.question_commands.specs.Taken.{opened_line}
+use Rattle.question_answers.specs.Replies.{refused_line}
+use Rattle.question_answers.specs.Taken.{opened_line}
 use Rattle.unchecked_questions.proofs.TrustingLemmas.{finishes}
 use Rattle.unchecked_questions.proofs.trusting.answer_line.Goals as goal
 

@@ -3,7 +3,7 @@ use Rattle.std.proofs.Common.{◌≡◌, ◌∙◌, List, ℕ, Option, ap, refl,
 use Rattle.std.specs.Io.KnownBytes.{prepend_known}
 use Rattle.std.proofs.KnownBytes.{prepend_known-nil}
 use Rattle.graph_commands.specs.OpenerAnswer.{MayOpen}
-use Rattle.question_commands.specs.Taken.{Opener}
+use Rattle.question_answers.specs.Taken.{Opener}
 use Rattle.unchecked_questions.specs.TrustedLines.{AreAnswered}
 use Rattle.unchecked_questions.proofs.TrustingLemmas.{answered_anew, answered_more, answered_none, answered_to_end}
 use Rattle.unchecked_questions.proofs.TrustingLemmas.{answered_to_failure}

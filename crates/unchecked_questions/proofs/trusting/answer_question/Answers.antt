@@ -5,7 +5,7 @@ use Rattle.graph_folder.specs.Tree.{Tree}
 use Rattle.graph_layer.specs.declared.opening.error.OpenError.TheVariants.{Device}
 use Rattle.graph_commands.specs.declared.refusal.Refusal.TheVariants.{Open, Walk}
 use Rattle.graph_unchecked.specs.Trusted.{IsTrustedAt}
-use Rattle.question_commands.specs.Taken.{opened_line}
+use Rattle.question_answers.specs.Taken.{opened_line}
 use Rattle.unchecked_commands.proofs.AnswerLemmas.{kept-unless}
 use Rattle.unchecked_questions.specs.PartReplies.{reply_text}
 use Rattle.unchecked_questions.proofs.PartReplyLemmas.{tells-failed, tells-wanting}

@@ -2,8 +2,8 @@
 use Rattle.std.proofs.Common.{◌≡◌, ◌∙◌, List, ap, subst}
 use Rattle.graph_format.specs.Layer.{Layer}
 use Rattle.graph_history.specs.RightGraph.{CheckedLayers}
-use Rattle.question_commands.specs.Questions.{question_ids, question_name}
-use Rattle.question_commands.specs.Replies.{TellsOfIds}
+use Rattle.question_lines.specs.Questions.{question_ids, question_name}
+use Rattle.question_answers.specs.Replies.{TellsOfIds}
 use Rattle.unchecked_questions.proofs.TrustingLemmas.{adds_told}
 use Rattle.unchecked_questions.proofs.trusting.answer_whole.Goals as goal
 

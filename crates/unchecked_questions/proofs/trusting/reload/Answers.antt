@@ -1,7 +1,7 @@
 -- How many commits the graph has is told, or why it is refused.
 use Rattle.std.proofs.Common.{refl}
 use Rattle.std.specs.Prelude.{Ok, Err}
-use Rattle.question_commands.specs.Taken.{opened_line}
+use Rattle.question_answers.specs.Taken.{opened_line}
 use Rattle.unchecked_questions.proofs.TrustingLemmas.{adds_line}
 use Rattle.unchecked_questions.proofs.trusting.reload.Goals as goal
 

@@ -1,6 +1,6 @@
 -- What is written is the text of a session, or the line of a refusal.
 use Rattle.graph_commands.specs.OpenerAnswer.{MayOpen}
-use Rattle.question_commands.specs.Taken.{Opener}
+use Rattle.question_answers.specs.Taken.{Opener}
 use Rattle.unchecked_questions.proofs.TrustingLemmas.{asks_trusted, refuses_trusted}
 use Rattle.unchecked_questions.proofs.trusting.run_ask_unchecked.Goals as goal
 

@@ -1,0 +1,4 @@
+pub mod ReadLemmas
+pub mod ReplyLemmas
+pub mod BufferLemmas
+pub mod AnsweredLemmas

@@ -1,0 +1,37 @@
+-- What is told may be told for the line.
+use Rattle.std.proofs.Common.{inl, inr, refl, rules}
+use Rattle.std.specs.Prelude.{Err}
+use Rattle.graph_commands.specs.declared.refusal.Refusal.TheVariants as refusal
+use Rattle.question_answers.specs.Replies.{refused_line}
+use Rattle.question_answers.specs.Taken.{opened_line}
+use Rattle.question_answers.proofs.AnsweredLemmas.{finishes}
+use Rattle.question_answers.proofs.answering.answer.Goals as goal
+
+pub returns-in-Ok-Some-Reload-clause-reload : goal.returns-in-Ok-Some-Reload-clause-reload
+returns-in-Ok-Some-Reload-clause-reload g c = λ no.
+    let asks = rw (c.in-Ok-Some-Reload.field-0-is, c.in-Ok-Some-Reload.field-0-0-is) at c.in-Ok-Some-Reload.ensures.asked in
+    (asks, refl)
+
+pub returns-in_ok-tell-in-Ok-Some : goal.returns-in_ok-tell-in-Ok-Some
+returns-in_ok-tell-in-Ok-Some g c =
+    let layers = c.args.teller.now in
+    let asks = rw c.in-Ok-Some.field-0-is at c.in-Ok-Some.ensures.asked in
+    let added = c.in_ok-tell-in-Ok-Some.ensures.told in
+    record {
+      told = finishes c.finish.result layers c.args.line.now added.0 c.args.buffer.now _ _ _
+          (inr (inr (c.in-Ok-Some.question, asks, added.1))) c.requires added.2 c.finish.ensures.written;
+      reload = search rules;
+      buffer = search rules;
+      teller = search rules;
+    }
+
+pub returns-in_ok-push_text-in-Ok-None-clause-told : goal.returns-in_ok-push_text-in-Ok-None-clause-told
+returns-in_ok-push_text-in-Ok-None-clause-told g c =
+    let nothing = rw c.in-Ok-None.field-0-is at c.in-Ok-None.ensures.nothing in
+    finishes c.finish-in-Ok-None.result c.args.teller.now c.args.line.now refused_line c.args.buffer.now _ _ _
+    (inl (nothing refl, refl)) c.requires c.in_ok-push_text-in-Ok-None.ensures c.finish-in-Ok-None.ensures.written
+
+pub returns-in_ok-push_text-in-Err-clause-told : goal.returns-in_ok-push_text-in-Err-clause-told
+returns-in_ok-push_text-in-Err-clause-told g c =
+    finishes c.finish-in-Err.result c.args.teller.now c.args.line.now (opened_line (Err refusal.Walk)) c.args.buffer.now _ _ _
+    (inr (inl (c.in-Err.ensures.memory, refl))) c.requires c.in_ok-push_text-in-Err.ensures c.finish-in-Err.ensures.written

@@ -1,0 +1,4 @@
+pub mod ReadLines
+pub mod Replies
+pub mod Taken
+pub mod AnsweredLines

@@ -1,0 +1,4 @@
+pub mod Places
+pub mod InputLines
+pub mod Questions
+pub mod WordsLeft

@@ -1,0 +1,10 @@
+//! Lines of an input, and the questions that they ask.
+//!
+//! [`lines`] reads lines one after another, whatever pieces the input comes in. [`question`] has
+//! which line asks which question.
+#![tactic(auto)]
+
+pub mod lines;
+mod place;
+pub mod question;
+mod words;
