@@ -73,14 +73,6 @@ closed_folder() {
     return 1
 }
 
-# The layer in which a position of the whole commit-graph is.
-layer_of_position() {
-    list_layers "$place/$graph" 2>/dev/null | awk -v position="$1" '
-        /^layer / { layer++ }
-        /^[0-9]/ && count++ == position { print layer - 1; exit }
-    '
-}
-
 # Sets `where` to the file of which a refusal speaks.
 name_file() {
     file=
@@ -91,7 +83,7 @@ name_file() {
         ;;
     'refused '*' position '*)
         number=${line#* position }
-        number=$(layer_of_position "${number%% *}")
+        number=$(layer_of_position "$place/$graph" "${number%% *}")
         ;;
     'refused open 4 line '* | 'refused git 2 line '*)
         file=$(chain_file)

@@ -416,7 +416,8 @@ def check_refusal(installed, results, repository, case):
     commit = ["the commit at position %s is %s" % at for at in [position_in(line, layers)] if at]
     words = [os.path.join(installed.prefix, "bin", "graphtool"), "verify", repository.graph_path() if is_file else info]
     answer = run(words, installed.variables)
-    err = refusals.written("graphtool", [*commit, *refusals.sentences(rows, line.strip(), "verify")])
+    known = refusals.Known(file_in(line, layers, repository.graph_path() if is_file else os.path.join(info, trees.GRAPHS), is_file))
+    err = refusals.written("graphtool", [*commit, *refusals.sentences(rows, line.strip(), "verify", known)])
     complaint = None if answer == (1, line, err) else "it is %r, expected %r" % (answer, (1, line, err))
     results.check("graphtool verify, %s, in sentences" % name, complaint)
     there = any(os.path.lexists(path) for path in (repository.graph_path(), os.path.join(info, trees.CHAIN)))
@@ -444,6 +445,22 @@ def check_cure(installed, results, repository, case):
 
 
 def position_in(line, layers):
+def file_in(line, layers, path, is_file):
+    """The sentence on the file of which a line speaks, of a file or of a folder with a chain at this path, or none."""
+    named = re.match(r"refused (?:open 5|verify \d+|dates \d+|filters \d+) (layer|position) (\d+)", line)
+    chain = os.path.join(path, os.path.basename(trees.CHAIN))
+    if re.match("refused open [46] ", line) and not is_file:
+        return "the chain file is '%s'" % chain
+    if not named or is_file:
+        return "the file is '%s'" % path if named else ""
+    number = int(named.group(2))
+    if named.group(1) == "position":
+        counts = itertools.accumulate(int(reading.listed(layer).split("\n")[0].split()[-1]) for layer in layers)
+        number = next(at for at, count in enumerate(counts) if number < count)
+    name = read_bytes(chain).splitlines()[number].decode()
+    return "layer %d is '%s'" % (number, os.path.join(path, "graph-%s.graph" % name))
+
+
     """The position that a line names, and the id that stands there, if it names one."""
     words = line.split()
     if "position" not in words:
