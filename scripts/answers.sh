@@ -107,17 +107,67 @@ report() {
     fi
 }
 
-# Where the file of an info folder was refused, a program speaks of the chain alone, which is not there: sets `where` and
-# `advice` to that.
+# Sets `where` to the file of which a refusal of a program by itself speaks, at the path that was given, if that is known. Where the
+# file of an info folder was refused, a program speaks of the chain alone, which is not there: sets `where` and `advice` to that.
 look_at_file() {
     case $name,$line in
-    graphtool,'refused open 2' | historytool,'refused open 2') ;;
+    'git cgraph',*) return 0 ;;
+    *,'refused open 2') ;;
+    *,'refused open '[46]' '*)
+        file=$(chain_file_at "$1")
+        [ -z "$file" ] || where="the chain file is '$file'"
+        return
+        ;;
+    *,'refused open 5 layer '* | *,'refused verify '* | *,'refused dates '* | *,'refused filters '*)
+        name_layer_at "$1"
+        return
+        ;;
     *) return 0 ;;
     esac
     if [ -n "$1" ] && [ -f "$1/commit-graph" ] && [ -r "$1/commit-graph" ] && [ ! -e "$1/commit-graphs/commit-graph-chain" ]; then
         where="the file '$1/commit-graph' was refused, and there is no chain beside it"
         advice='give the path of that file, to see why it was refused'
     fi
+}
+
+# The chain file of the graph at a path, or nothing where none is there.
+chain_file_at() {
+    for chain in "$1/commit-graph-chain" "$1/commit-graphs/commit-graph-chain"; do
+        [ ! -f "$chain" ] || { printf '%s\n' "$chain" && return; }
+    done
+}
+
+# Sets `where` to the file of the layer of which `line` speaks, by its number or by a position, of the graph at a path.
+name_layer_at() {
+    case $line in
+    *' layer '*) number=${line#* layer } ;;
+    *' position '*)
+        number=${line#* position }
+        number=$(layer_of_position "$1" "${number%% *}")
+        ;;
+    *) return ;;
+    esac
+    chain=$(chain_file_at "$1") number=${number%% *}
+    if [ -f "$1" ]; then
+        where="the file is '$1'"
+    elif [ -f "$1/commit-graph" ] && { [ -z "$chain" ] || opens "$1/commit-graph"; }; then
+        where="the file is '$1/commit-graph'"
+    elif [ -n "$chain" ] && [ -n "$number" ]; then
+        where="layer $number is '${chain%/*}/graph-$(sed -n "$((number + 1))p" "$chain").graph'"
+    fi
+}
+
+# Whether a file can be listed, if the program `graphtool` is there.
+opens() {
+    find_lister && "$lister" list <"$1" 2>/dev/null | head -n 1 | grep -q '^layer '
+}
+
+# The layer in which a position of the whole graph at a path is.
+layer_of_position() {
+    list_layers "$1" 2>/dev/null | awk -v position="$2" '
+        /^layer / { layer++ }
+        /^[0-9]/ && count++ == position { print layer - 1; exit }
+    '
 }
 
 # Says what `line` means and what to do, by the tables of docs/REFUSALS.md: explain FORM COMMAND PATH [ID..]. `beside` is the

@@ -73,14 +73,6 @@ closed_folder() {
     return 1
 }
 
-# The layer in which a position of the whole commit-graph is.
-layer_of_position() {
-    list_layers "$place/$graph" 2>/dev/null | awk -v position="$1" '
-        /^layer / { layer++ }
-        /^[0-9]/ && count++ == position { print layer - 1; exit }
-    '
-}
-
 # Sets `where` to the file of which a refusal speaks.
 name_file() {
     file=
@@ -91,7 +83,7 @@ name_file() {
         ;;
     'refused '*' position '*)
         number=${line#* position }
-        number=$(layer_of_position "${number%% *}")
+        number=$(layer_of_position "$place/$graph" "${number%% *}")
         ;;
     'refused open 4 line '* | 'refused git 2 line '*)
         file=$(chain_file)
@@ -115,11 +107,19 @@ name_file() {
     esac
 }
 
+# Whether the shell that asks stands in another folder than this one, by -C. After `git -C` the variable PWD still names its
+# folder, as Git has passed it on; the value that this shell gives it at its start is another one.
+is_moved() {
+    [ -z "$moved" ] || return 0
+    from=$(tr '\0' '\n' <"/proc/$$/environ" 2>/dev/null | sed -n '/^PWD=/{s///p;q;}')
+    [ -n "$from" ] && ! [ "$from" -ef . ]
+}
+
 # `git` with the words by which it speaks of the repository whose commit-graph this is.
 git_there() {
     if [ "$home" != "$objects" ] && [ -z "$named" ]; then
         printf 'git --git-dir=%s' "$(quoted "${home%/objects}")"
-    elif [ -n "$moved${GIT_DIR-}" ]; then
+    elif [ -n "${GIT_DIR-}" ] || is_moved; then
         printf 'git --git-dir=%s' "$(quoted "$common")"
     else
         printf git
@@ -130,7 +130,7 @@ git_there() {
 # `git`, as it is called for the repository of the question: by -C where that folder is not the shell's.
 git_here() {
     printf git
-    [ -z "$moved" ] || printf ' -C %s' "$(quoted "$(pwd -P)")"
+    ! is_moved || printf ' -C %s' "$(quoted "$(pwd -P)")"
 }
 
 # Turns from the commit-graph of another repository, if it is one, to that which this repository may have of its own.

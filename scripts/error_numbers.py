@@ -1,6 +1,11 @@
-"""The numbers by which the programs tell errors: the definitions have them, and the documents and the slow reading agree."""
+"""The numbers by which the programs tell errors: the definitions have them, and the documents and the slow reading agree. What the
+library's header says to do about each is what the document says, and its crates and modules say the same.
+"""
 
+import ast
 import re
+
+import refusals
 
 DEFINED = re.compile(r"^(\w+)_number \(?(?:\w+\.)?(\w+)[^=]*= (\d+)$", re.MULTILINE)
 TABLES = (
@@ -68,6 +73,9 @@ IN_SPECS = re.compile(
     r"|^(?:out_of_memory|closed_graph|not_checked|no_such_position|path_not_utf8|no_dates|more_parents|path_wanted|no_such_layer|stopped|no_ids) = (\d+)$",
     re.MULTILINE,
 )
+ADVISING = "static inline const char *cg_advice("
+"""Where the header begins to say what to do."""
+
 NEVER = 309
 """The number of an error of a processor, which no check of the library has."""
 
@@ -95,12 +103,13 @@ MEMORY = {120}
 def wrong_codes(texts):
     """Where the header, the Rust crate, the definitions and the document disagree in the library's numbers of causes."""
     header = [(name, int(number)) for name, number in IN_HEADER.findall(texts[HEADER])]
+    sentences = SENTENCE.findall(texts[HEADER].partition(ADVISING)[0])
     numbers = {number for _, number in header}
-    if len(numbers) != len(header) or [name for name, _ in SENTENCE.findall(texts[HEADER])] != [name for name, _ in header]:
+    if len(numbers) != len(header) or [name for name, _ in sentences] != [name for name, _ in header]:
         yield "%s has not one number and one sentence for each name" % HEADER
     if [(name, int(number)) for name, number in IN_PYTHON.findall(texts[PYTHON])] != header:
         yield "%s has other numbers than the header" % PYTHON
-    if IN_PYTHON_SAID.findall(texts[PYTHON]) != SENTENCE.findall(texts[HEADER]):
+    if IN_PYTHON_SAID.findall(texts[PYTHON].partition("ADVICE = {")[0]) != sentences:
         yield "%s has other sentences than the header" % PYTHON
     for name, number in IN_RUST.findall(texts[RUST]):
         if (name, int(number)) not in header:
@@ -112,3 +121,81 @@ def wrong_codes(texts):
     told = {base + int(row) for base, rows in GROUPS.items() for row in rows.findall(texts[REFUSALS])} - MEMORY
     if told != {number for number in numbers if number > 20}:
         yield "%s and %s differ in %s" % (HEADER, REFUSALS, sorted(told ^ {number for number in numbers if number > 20}))
+
+
+ADVICE_IN_RUST = "bindings/rust/src/advice.rs"
+LINES = {
+    20: "refused open %d", 100: "refused file %d", 150: "refused file 5 chunk %d", 200: "refused open 6 graph %d",
+    300: "refused verify %d", 340: "refused verify 4 layer L fault %d", 350: "refused verify 5 position P fault %d",
+    360: "refused verify 6 position P error N", 400: "refused dates %d", 500: "refused filters %d", 600: "refused objects %d",
+    700: "refused write %d",
+}
+"""The line that a program writes for a number of the library, of which this number is subtracted: the greatest below it."""
+
+
+def advice(row):
+    """What the library says to do about a row of the document: the programs say the part on writing anew by itself."""
+    anew = next(one.happened for one in refusals.read_rows() if one.text == refusals.ANEW)
+    if row.to_do == refusals.ANEW:
+        return anew
+    if row.to_do.endswith(refusals.ANEW):
+        return "%s: %s" % (row.to_do, anew)
+    return row.to_do.strip("-") + ("; to write it anew, " + anew if refusals.ANEW in row.to_do else "")
+
+
+def row_of(rows, name, number):
+    """The row of the document for a number of the library."""
+    named = [row for row in rows if row.text == "CG_" + name]
+    base = max(base for base in LINES if base < number)
+    words = (LINES[base] % (number - base) if "%" in LINES[base] else LINES[base]).split()
+    starting = [row for row in rows if row.text.split()[: len(words)] == words and row.command in (None, "distinct")]
+    return (named + starting + [None])[0]
+
+
+def advised_in_header(text):
+    """What the header says to do, for each name that is there, and for all others from one number on up to another."""
+    body = text.partition(ADVISING)[2]
+    anew = text_of(re.search(r"#define CG_ANEW (.*?)\n {4}switch", body, re.DOTALL).group(1).replace("\\\n", " "))
+    said = {}
+    for names, told in re.findall(r"((?:    case CG_\w+:(?: case CG_\w+:)*\s+)+)return (.*?);\n", body, re.DOTALL):
+        said.update({name: text_of(told.replace("CG_ANEW", '"%s"' % anew)) for name in re.findall(r"case CG_(\w+):", names)})
+    return said, anew
+
+
+def text_of(literals):
+    """The text of string literals that stand one after another."""
+    return "".join(ast.literal_eval(one) for one in re.findall(r'"(?:\\.|[^"\\])*"', literals))
+
+
+def wrong_advice(texts):
+    """Where the header says to do another thing about a number than the document, or Python or Rust another one than the header."""
+    said, anew = advised_in_header(texts[HEADER])
+    rows = refusals.read_rows()
+    names = [(name, int(number)) for name, number in IN_HEADER.findall(texts[HEADER]) if int(number) > 20]
+    told = {name: said.get(name, anew if 24 <= number < 701 else "") for name, number in names}
+    for name, number in names:
+        row = row_of(rows, name, number)
+        if row is None or advice(row) != told[name]:
+            yield "%s says of %s to do %r, and %s %r" % (HEADER, name, told[name], REFUSALS, row and advice(row))
+    if advised_in_python(texts[PYTHON]) != said:
+        yield "%s says to do other things than the header" % PYTHON
+    rust = texts[ADVICE_IN_RUST]
+    own = text_of(re.sub(r"\\\n\s+", "", re.search(r"=> \{(.*?)\}", rust, re.DOTALL).group(1)))
+    for literals in re.findall(r"pub\(crate\) const \w+: &str = (.*?);$", rust, re.MULTILINE | re.DOTALL):
+        if text_of(re.sub(r"\\\n\s+", "", literals).replace("anew!()", '"%s"' % own)) not in {anew, *said.values()}:
+            yield "%s says to do what the header does not: %s" % (ADVICE_IN_RUST, literals)
+
+
+def advised_in_python(text):
+    """The table of what to do, by the names of its numbers."""
+    made = {}
+    for one in ast.parse(text).body:
+        if isinstance(one, ast.Assign) and getattr(one.targets[0], "id", "") in ("ANEW", "FILTERS", "ADVICE"):
+            made[one.targets[0].id] = one.value
+
+    def value(node):
+        if isinstance(node, ast.BinOp):
+            return value(node.left) + value(node.right)
+        return value(made[node.id]) if isinstance(node, ast.Name) else node.value
+
+    return {key.attr: value(node) for key, node in zip(made["ADVICE"].keys, made["ADVICE"].values)}

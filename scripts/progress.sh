@@ -28,6 +28,30 @@ tick() {
     exec sh -c 'sleep "$1" >/dev/null; while echo tick; do sleep 1 >/dev/null; done' sh "$delay" 2>/dev/null
 }
 
+# Begins to say each second for how long something goes on of which no more is known: begin_waiting TEXT. It ends with
+# `end_waiting TEXT`, or with this process; what says so keeps nothing open but 6. The files `waiting` and `waited` of the folder
+# `scratch` tell that it goes on, and for how long that was said.
+begin_waiting() {
+    shows_progress || return 0
+    : >"$scratch/waiting"
+    (exec </dev/null >/dev/null 2>&1 4>&- 8>&- 9>&- && wait_aloud "$1") &
+}
+
+wait_aloud() {
+    waited=0
+    while sleep 1; [ -e "$scratch/waiting" ] && kill -0 $$; do
+        waited=$((waited + 1))
+        [ $waited -lt "$delay" ] || { printf '%s: %d s\r' "$1" $waited >&6 && echo $waited >"$scratch/waited"; }
+    done
+}
+
+end_waiting() {
+    [ -n "$scratch" ] && [ -e "$scratch/waiting" ] || return 0
+    rm -f "$scratch/waiting"
+    [ ! -e "$scratch/waited" ] || printf '%s: %d s, done.\n' "$1" "$(cat "$scratch/waited")" >&6
+    rm -f "$scratch/waited"
+}
+
 # Runs a program in place, and says meanwhile how much of the commit-graph it has read, and then how long it takes to check it.
 watched() {
     size=$(graph_size)

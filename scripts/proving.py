@@ -234,10 +234,19 @@ def build(crate):
         os.close(folder)
 
 
+def other_kit():
+    """A line that says so where the kit is another one than that of the proofs, or nothing."""
+    told = subprocess.run(["rt", "version"], capture_output=True, text=True).stdout.strip()
+    wanted = (TOP / "VERSION").read_text().partition(", proved with ")[2].strip()
+    return "" if told == wanted else f"the proofs are for the kit '{wanted}', and `rt version` says '{told}'\n"
+
+
 if __name__ == "__main__":
     if len(sys.argv) != 2 or sys.argv[1] not in USES:
         sys.exit(__doc__)
     try:
         build(sys.argv[1])
     except RuntimeError as error:
-        sys.exit(f"{error}\n{sys.argv[1]} was not proved or built")
+        sys.exit(f"{error}\n{other_kit()}{sys.argv[1]} was not proved or built")
+    except KeyboardInterrupt:
+        sys.exit(f"{sys.argv[1]} was not proved or built: it was stopped; what is proved by now is kept")

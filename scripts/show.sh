@@ -52,12 +52,11 @@ find_coverage() {
     make_scratch
     if ! list_reachable >"$scratch/reachable"; then
         line='the commits of this repository could not be listed' status=128
-    elif ! list_stored >"$scratch/stored" || ! compare_ids; then
+    elif ! begin_waiting 'Comparing commits' || ! list_stored >"$scratch/stored" || ! compare_ids; then
         line='the ids could not be compared' status=128 missing='' unread=yes
-    else
-        return 0
     fi
-    said="$said$name: $line$newline"
+    end_waiting 'Comparing commits'
+    [ "$status" -eq 0 ] || said="$said$name: $line$newline"
 }
 
 # Tells that, and what to do, where that is something.

@@ -17,6 +17,7 @@ write_graph() {
     make_scratch
     find_graph
     if [ -n "$split" ]; then write_layer; else write_file; fi
+    end_waiting 'Writing commit-graph'
     give_locks_back
     [ "$status" -ne 0 ] || tell_written_file
 }
@@ -256,6 +257,7 @@ make_file() {
             {
                 "$1"
                 echo "list $?" >&4
+                begin_waiting 'Writing commit-graph'
             } | {
                 tee "$scratch/ids" 4>&-
                 echo "tee $?" >&4

@@ -43,8 +43,8 @@ extern "C" {
 /* The version of the library, which has to be CG_VERSION. */
 uint32_t cg_version(void);
 
-/* Each cause has one number, the same in all calls; cg_strerror (below) has a sentence for it, and
- * docs/REFUSALS.md says what to do. */
+/* Each cause has one number, the same in all calls; cg_strerror (below) has a sentence for it, and cg_advice says what to do, as
+ * docs/REFUSALS.md does. */
 enum cg_code {
     CG_OK = 0,
     CG_OUT_OF_MEMORY = 1,
@@ -729,6 +729,49 @@ static inline const char *cg_strerror(uint32_t code) {
     case CG_WRITE_TOO_MANY_LAYERS: return "the graph below has 256 layers";
     default: return "a number that is not known";
     }
+}
+
+/* What to do about it, with the commands to type, in the words of docs/REFUSALS.md; "" where it says nothing. A commit-graph is written
+ * anew by commands that are typed at the top of its repository. */
+static inline const char *cg_advice(uint32_t code) {
+#define CG_ANEW "remove `.git/objects/info/commit-graph` and the folder `.git/objects/info/commit-graphs`, " \
+                "and then run `git commit-graph write --reachable`"
+    switch (code) {
+    case CG_OUT_OF_MEMORY: return "give the program more memory";
+    case CG_OPEN_NOTHING_FOUND: return "check the path";
+    case CG_OPEN_NOT_OPENED:
+        return "`git commit-graph write --reachable` makes a commit-graph (not in a shallow repository); if there is one, "
+               "check permissions, and whether a layer is in another object folder, where it is not looked for";
+    case CG_OPEN_READ_FAILED: return "try again, and check the disk";
+    case CG_GRAPH_TOO_MANY_COMMITS: return "a commit-graph cannot hold more";
+    case CG_CHECK_BASE_COUNT: return "open the whole chain, by its folder; else write it anew: " CG_ANEW;
+    case CG_CHECK_CHECKSUM: return "check the disk, and write it anew: " CG_ANEW;
+    case CG_CHECK_FILE_NAME: return "give it its name back, or write it anew: " CG_ANEW;
+    case CG_DATES_WRONG:
+        return "write it anew; where a time is past the year 2514, Git writes dates that are refused again, and "
+               "`git -c commitGraph.generationVersion=1 commit-graph write --reachable` writes none; to write it anew, " CG_ANEW;
+    case CG_FILTERS_INDEX_SIZE: case CG_FILTERS_DATA_SIZE: case CG_FILTERS_VERSION: case CG_FILTERS_HASHES:
+    case CG_FILTERS_NO_BITS: case CG_FILTERS_FALLS: case CG_FILTERS_PAST_END: case CG_FILTERS_LEFT_OVER: case CG_FILTERS_SETTINGS:
+        return "write it anew, with `--changed-paths` after the last command; to write it anew, " CG_ANEW;
+    case CG_OBJECT_OTHER_CONTENTS: return "take the object from another copy of the repository";
+    case CG_OBJECT_UNREADABLE: return "see what `git fsck` says of it";
+    case CG_OBJECT_TIME:
+        return "write it anew; where its time is past the year 2514, Git stores the low bits again, and the commit has to be "
+               "made anew, with another time; to write it anew, " CG_ANEW;
+    case CG_WRITE_KIND: return "hand in ids of one kind";
+    case CG_WRITE_NULL_ID: return "hand in its id";
+    case CG_WRITE_NULL_TREE: return "see what `git fsck` says of it";
+    case CG_WRITE_TIME: return "make the commit anew, with another time";
+    case CG_WRITE_TWICE: return "give each commit once";
+    case CG_WRITE_BELOW: return "give the commits that the graph lacks";
+    case CG_WRITE_PARENT: return "give all ancestors that the graph lacks";
+    case CG_WRITE_CYCLE: return "hand in the parents that its object names";
+    case CG_WRITE_NOTHING: return "see whether `git rev-list --all` lists any";
+    case CG_WRITE_NO_IDS: return "hand in whole ids";
+    case CG_WRITE_TOO_MANY_LAYERS: return "write the chain anew as one file";
+    default: return code >= CG_OPEN_CHAIN_NOT_TEXT && code < CG_WRITE_KIND ? CG_ANEW : "";
+    }
+#undef CG_ANEW
 }
 
 #ifdef __cplusplus

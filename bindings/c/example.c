@@ -9,13 +9,13 @@
 #include <sys/stat.h>
 #include <unistd.h>
 
-/* The bytes of a file, mapped, and its path. A mapping of no bytes is refused by the system, and so is such a file here. */
+/* The bytes of a file, mapped, and its path. The system maps no bytes, so that an empty file has other ones. */
 static bool map(const char *path, cg_file *file) {
     struct stat status;
     int fd = open(path, O_RDONLY);
     if (fd < 0) return false;
     void *at = MAP_FAILED;
-    if (fstat(fd, &status) == 0) at = mmap(NULL, (size_t)status.st_size, PROT_READ, MAP_PRIVATE, fd, 0);
+    if (fstat(fd, &status) == 0) at = status.st_size == 0 ? "" : mmap(NULL, (size_t)status.st_size, PROT_READ, MAP_PRIVATE, fd, 0);
     close(fd);
     if (at == MAP_FAILED) return false;
     *file = (cg_file){ at, (size_t)status.st_size, (const uint8_t *)path, strlen(path) };
@@ -56,21 +56,46 @@ static int print_commit(cg_graph graph, const char *hex) {
     return 0;
 }
 
+/* Whether the code is that of a fault of one commit, at the position of the verdict. */
+static bool is_of_commit(uint32_t code) {
+    return (code >= CG_CHECK_PARENT_OUT_OF_RANGE && code <= CG_CHECK_DUPLICATE_ID) ||
+           (code >= CG_CHECK_NULL_ID && code <= CG_PARENT_EDGE_OVERFLOW);
+}
+
+/* Why the file is refused: what is wrong with it, with which commit, and what to do. The id of a commit is read from the graph of the
+ * same bytes, which is opened without a check. */
+static void print_refusal(const cg_file *file, const cg_verdict *verdict) {
+    uint8_t id[32];
+    cg_graph graph = CG_CLOSED;
+    fprintf(stderr, "refused: %s: %s\n", (const char *)file->path, cg_strerror(verdict->code));
+    if (is_of_commit(verdict->code) && cg_open(file, 1, &graph).code == CG_OK) {
+        size_t len = cg_id_at(graph, verdict->position, id, cg_id_len(graph));
+        fprintf(stderr, "the commit at position %" PRIu32 " is ", verdict->position);
+        for (size_t i = 0; i < len; i++) fprintf(stderr, "%02" PRIx8, id[i]);
+        fputc('\n', stderr);
+        cg_close(graph);
+    }
+    if (*cg_advice(verdict->code)) fprintf(stderr, "what to do: %s\n", cg_advice(verdict->code));
+}
+
 int main(int argc, char **argv) {
     cg_file file;
     cg_graph graph = CG_CLOSED;
     cg_verdict verdict;
     cg_count counts[64];
-    if (argc != 3 || !map(argv[1], &file)) {
+    if (argc != 3) {
         fputs("usage: example PATH ID, with the path of a commit-graph file\n", stderr);
         return 2;
     }
-    cg_error error = cg_open_checked(&file, 1, false, &verdict, counts, 64, &graph);
-    munmap((void *)file.bytes, file.len);
-    if (error.code != CG_OK) {
-        printf("refused: %s\n", cg_strerror(error.code));
-        return 1;
+    if (!map(argv[1], &file)) {
+        perror(argv[1]);
+        fprintf(stderr, "what to do: %s\n", cg_advice(CG_OPEN_NOT_OPENED));
+        return 2;
     }
+    cg_error error = cg_open_checked(&file, 1, false, &verdict, counts, 64, &graph);
+    if (error.code != CG_OK) print_refusal(&file, &verdict);
+    if (file.len) munmap((void *)file.bytes, file.len);
+    if (error.code != CG_OK) return 1;
     printf("%" PRIu32 " commits\n", cg_num_commits(graph));
     int status = print_commit(graph, argv[2]);
     cg_close(graph);

@@ -14,9 +14,11 @@ import "C"
 import (
 	"context"
 	"errors"
+	"fmt"
 	"io"
 	"math"
 	"os"
+	"path/filepath"
 	"runtime"
 	"strings"
 	"syscall"
@@ -36,23 +38,82 @@ type Graph struct {
 type Error struct {
 	// Code is one of enum cg_code in commitgraph.h.
 	Code uint32
-	// Layer is the layer that is refused, counted from 0.
+	// Layer is the layer that is refused, or the line of the chain file, counted from 0.
 	Layer uint64
 	// Position is that of the commit that is refused.
 	Position uint32
-	// Path is that of the layer's file, where its bytes are refused.
+	// Commit is the id of that commit, where it is known.
+	Commit []byte
+	// Path is that of the file that is refused, where it is known: of the layer, or the chain file.
 	Path string
 	// Number is that of the question that has no answer, or of the commit that is not written, and Other what commitgraph.h says of
 	// that commit.
 	Number, Other uint64
 }
 
+// Error says what is wrong, in which file and with which commit, and what to do.
 func (e *Error) Error() string {
 	said := C.GoString(C.cg_strerror(C.uint32_t(e.Code)))
 	if e.Path != "" {
 		said = e.Path + ": " + said
 	}
-	return said
+	switch {
+	case e.Code == C.CG_OPEN_CHAIN_NOT_TEXT:
+		said += fmt.Sprintf(": line %d, counted from 0", e.Layer)
+	case e.Code >= C.CG_WRITE_KIND && e.Code <= C.CG_WRITE_CYCLE || e.Code == C.CG_WRITE_NO_IDS:
+		said += fmt.Sprintf(": commit %d of those that were handed in, counted from 0", e.Number)
+	case len(e.Commit) > 0:
+		said += fmt.Sprintf("; the commit at position %d is %x", e.Position, e.Commit)
+	}
+	return advised(said, e.Advice())
+}
+
+// Advice says what to do, with the commands to type, or is empty.
+func (e *Error) Advice() string {
+	return C.GoString(C.cg_advice(C.uint32_t(e.Code)))
+}
+
+func advised(said, advice string) string {
+	if advice == "" {
+		return said
+	}
+	return said + "; what to do: " + advice
+}
+
+// isOfCommit says whether a refusal with this code is of one commit, at its position.
+func isOfCommit(code uint32) bool {
+	return code >= C.CG_CHECK_PARENT_OUT_OF_RANGE && code <= C.CG_CHECK_DUPLICATE_ID ||
+		code >= C.CG_CHECK_NULL_ID && code <= C.CG_PARENT_EDGE_OVERFLOW ||
+		code >= C.CG_DATES_OVERFLOW_INDEX && code <= C.CG_DATES_WRONG
+}
+
+// name adds the commit of which a refusal speaks, and its layer, by an open graph, and says whether that has it.
+func (e *Error) name(graph C.cg_graph) bool {
+	id := make([]byte, 32)
+	e.Commit = id[:C.cg_id_at(graph, C.uint32_t(e.Position), at(id), C.cg_id_len(graph))]
+	for layer := (C.cg_layer_info{}); C.cg_layer(graph, C.uint64_t(e.Layer), &layer); e.Layer++ {
+		if e.Position-uint32(layer.first) < uint32(layer.num_commits) {
+			return true
+		}
+	}
+	return false
+}
+
+// refused is the refusal of layers by a check, with the file and the commit of which it speaks: the graph of the same layers, which is
+// opened without a check, has the commit.
+func refused(code uint32, verdict *C.cg_verdict, files []C.cg_file, paths []string) *Error {
+	err := &Error{Code: code, Layer: uint64(verdict.layer), Position: uint32(verdict.position)}
+	isOfLayer := code == C.CG_PATH_NOT_UTF8 || code > 100 && code < 200 || code == C.CG_GRAPH_HASH_MISMATCH || code > C.CG_CHECK_TOO_MANY_FILES
+	if isOfCommit(code) && len(files) > 0 {
+		var graph C.cg_graph
+		C.cg_open(&files[0], C.size_t(len(files)), &graph)
+		isOfLayer = err.name(graph)
+		C.cg_close(graph)
+	}
+	if isOfLayer && err.Layer < uint64(len(paths)) {
+		err.Path = paths[err.Layer]
+	}
+	return err
 }
 
 // Layer is the bytes of a layer, and the path of its file.
@@ -77,8 +138,8 @@ func OpenWithin(ctx context.Context, path string, distinctIDs bool, visits uint6
 		known.root, known.asked = path, ""
 	}
 	raw, err := known.open(known.asked, C.CG_ANYTHING)
-	var refused *Error
-	if file := known.file(); err != nil && !errors.As(err, &refused) && file != nil {
+	var told *Error
+	if file := known.file(); err != nil && !errors.As(err, &told) && file != nil {
 		raw, err = known.open(file.path, C.CG_FILE)
 	}
 	if err != nil {
@@ -93,8 +154,8 @@ func OpenWithin(ctx context.Context, path string, distinctIDs bool, visits uint6
 		return C.cg_check_within(given, C.bool(distinctIDs), limit, &verdict, &counts[0], 0, &graph.raw)
 	})
 	C.cg_close(raw)
-	if errors.As(err, &refused) {
-		refused.Layer, refused.Position = uint64(verdict.layer), uint32(verdict.position)
+	if errors.As(err, &told) {
+		return nil, known.refused(told.Code, &verdict)
 	}
 	if err != nil {
 		return nil, err
@@ -165,6 +226,44 @@ func (p *paths) file() *standing {
 	return nil
 }
 
+// layers are the files of the graph that was opened, the lowest layer first: those that a chain file names, which stand behind it,
+// since it is asked for only where the chain is opened; else the one file.
+func (p *paths) layers() []*standing {
+	layers, isChain := []*standing{}, false
+	for _, it := range p.known {
+		switch {
+		case it.raw.kind != C.CG_READ:
+		case !isChain && it.path != p.asked && strings.HasSuffix(it.path, chainFile):
+			layers, isChain = nil, true
+		case isChain, len(layers) == 0 && (it.path == p.asked || strings.HasSuffix(it.path, "commit-graph")):
+			layers = append(layers, it)
+		}
+	}
+	return layers
+}
+
+// refused is the refusal of the graph that was opened by its check.
+func (p *paths) refused(code uint32, verdict *C.cg_verdict) *Error {
+	files, paths := []C.cg_file{}, []string{}
+	for _, it := range p.layers() {
+		path := (*C.uint8_t)(unsafe.Pointer(it.raw.path))
+		files = append(files, C.cg_file{it.raw.bytes, it.raw.len, path, it.raw.path_len})
+		paths = append(paths, p.whole(it.path))
+	}
+	err := refused(code, verdict, files, paths)
+	if code == C.CG_CHECK_TOO_MANY_FILES && len(paths) > 0 {
+		err.Path = beside(paths[0])
+	}
+	return err
+}
+
+const chainFile = "commit-graph-chain"
+
+// beside is the path of the chain file of a layer, or its own.
+func beside(path string) string {
+	return filepath.Join(filepath.Dir(path), chainFile)
+}
+
 func (p *paths) whole(path string) string {
 	switch {
 	case path == "":
@@ -187,7 +286,7 @@ func (p *paths) open(path string, place C.uint32_t) (C.cg_graph, error) {
 		case told.code == C.CG_PATH_WANTED:
 			p.learn(file)
 		case told.code == C.CG_OPEN_NOTHING_FOUND:
-			return raw, &os.PathError{Op: "open", Path: p.whole(path), Err: os.ErrNotExist}
+			return raw, unread(&os.PathError{Op: "open", Path: p.whole(path), Err: os.ErrNotExist}, told.code)
 		default:
 			return raw, p.refusal(told, file)
 		}
@@ -216,7 +315,7 @@ func (p *paths) ask(path string, place C.uint32_t, room int) (C.cg_path_error, s
 // learn looks what stands at a path; and, so that no layer is opened once for each one above it, where a chain file names layers.
 func (p *paths) learn(path string) {
 	text := p.look(path)
-	folder := strings.TrimSuffix(path, "commit-graph-chain")
+	folder := strings.TrimSuffix(path, chainFile)
 	if folder == path {
 		return
 	}
@@ -262,15 +361,24 @@ func (p *paths) refusal(told C.cg_path_error, file string) error {
 	if told.code == C.CG_OPEN_NOT_OPENED || told.code == C.CG_OPEN_READ_FAILED {
 		for _, it := range p.known {
 			if it.path == file && it.err != nil {
-				return it.err
+				return unread(it.err, told.code)
 			}
 		}
 	}
 	err := &Error{Code: uint32(told.code), Layer: uint64(told.layer)}
-	if told.code < C.CG_GRAPH_NO_FILES && told.code != C.CG_OUT_OF_MEMORY {
+	switch {
+	case told.code == C.CG_OUT_OF_MEMORY:
+	case told.code == C.CG_OPEN_CHAIN_NOT_TEXT || told.code >= C.CG_GRAPH_NO_FILES:
+		err.Path = beside(p.whole(file))
+	default:
 		err.Path = p.whole(file)
 	}
 	return err
+}
+
+// unread adds to what the system says of a file what to do.
+func unread(err error, code C.uint32_t) error {
+	return fmt.Errorf("%w; what to do: %s", err, C.GoString(C.cg_advice(code)))
 }
 
 // chainLines are the lines of a chain file, each of which names a layer.
@@ -308,11 +416,11 @@ func OpenLayers(layers []Layer, distinctIDs bool) (*Graph, error) {
 		runtime.SetFinalizer(graph, (*Graph).Close)
 		return graph, nil
 	}
-	err := &Error{Code: uint32(told.code), Layer: uint64(verdict.layer), Position: uint32(verdict.position)}
-	if told.code > 100 && told.code < 200 {
-		err.Path = layers[told.layer].Path
+	paths := make([]string, len(layers))
+	for number, layer := range layers {
+		paths[number] = layer.Path
 	}
-	return nil, err
+	return nil, refused(uint32(told.code), &verdict, files[:len(layers)], paths)
 }
 
 // Close frees the graph, which answers nothing after that.
@@ -548,10 +656,14 @@ func write(below C.cg_graph, commits []NewCommit) ([]byte, error) {
 	told := C.cg_write(below, handed, C.size_t(len(commits)), &file)
 	C.free(unsafe.Pointer(handed))
 	if told.code != C.CG_OK {
-		return nil, &Error{
+		err := &Error{
 			Code: uint32(told.code), Layer: uint64(told.layer), Position: uint32(told.position),
 			Number: uint64(told.commit), Other: uint64(told.other),
 		}
+		if isOfCommit(err.Code) {
+			err.name(below)
+		}
+		return nil, err
 	}
 	defer C.cg_bytes_free(file)
 	bytes := make([]byte, C.cg_bytes_copy(file, 0, at(nil), 0))

@@ -1,7 +1,10 @@
 package commitgraph
 
 import (
+	"bytes"
 	"context"
+	"crypto/sha1"
+	"encoding/binary"
 	"encoding/hex"
 	"errors"
 	"math"
@@ -129,6 +132,35 @@ func (r *repository) refused(err error, code uint32, number, other uint64) {
 	}
 }
 
+// says compares what an error says with the file that it has to name, the id of a commit, if it has to name one, and what to type.
+func (r *repository) says(err error, file, commit string) {
+	r.Helper()
+	words := []string{file, "git commit-graph write --reachable"}
+	if commit != "" {
+		words = append(words, " is "+commit+"; ")
+	}
+	for _, word := range words {
+		if err == nil || !strings.Contains(err.Error(), word) {
+			r.Errorf("%v does not say %q", err, word)
+		}
+	}
+}
+
+// misnumbered is a file with another generation number of the commit with an id, and the checksum of its bytes.
+func (r *repository) misnumbered(file []byte, id []byte) []byte {
+	graph, err := OpenLayers([]Layer{{Bytes: file}}, false)
+	if err != nil {
+		r.Fatal(err)
+	}
+	defer graph.Close()
+	changed := append([]byte{}, file[:len(file)-sha1.Size]...)
+	entry := changed[bytes.Index(changed, []byte("CDAT")):]
+	record := binary.BigEndian.Uint64(entry[4:]) + 36*uint64(graph.Lookup(id))
+	changed[record+31] ^= 64
+	checksum := sha1.Sum(changed)
+	return append(changed, checksum[:]...)
+}
+
 // commits are what Git says of the commits of its branch.
 func (r *repository) commits() []NewCommit {
 	commits := []NewCommit{}
@@ -242,9 +274,11 @@ func TestPaths(t *testing.T) {
 	write(file, append(low[:len(low)-1:len(low)-1], low[len(low)-1]^1))
 	_, err = Open(r.info, false)
 	r.refused(err, 341, 0, 0)
+	r.says(err, file+": ", "")
 	write(named, append(lines, "\xff\n"...))
 	_, err = Open(chain, false)
 	r.refused(err, 24, 0, 0)
+	r.says(err, named+": a line of the chain file is not UTF-8: line 2, counted from 0", "")
 	below := filepath.Join(r.at, "\xff")
 	if err := os.Rename(chain, below); err != nil {
 		t.Fatal(err)
@@ -263,6 +297,65 @@ func TestPaths(t *testing.T) {
 	if _, err := Open(below, false); !errors.As(err, &failed) || filepath.Base(failed.Path) != filepath.Base(lowest) {
 		t.Error(err)
 	}
+}
+
+// The layer and the commit of which a check speaks are told, of a file by its bytes, and of a chain by its path.
+func TestFaults(t *testing.T) {
+	r := made(t)
+	r.git("commit-graph", "write", "--reachable")
+	file := filepath.Join(r.info, "commit-graph")
+	data, err := os.ReadFile(file)
+	if err != nil {
+		t.Fatal(err)
+	}
+	tip, _ := hex.DecodeString(r.ids[7])
+	_, err = OpenLayers([]Layer{{r.misnumbered(data, tip), "a file"}}, false)
+	r.refused(err, 308, 0, 0)
+	r.says(err, "a file: ", r.ids[7])
+	os.Remove(file)
+	for _, commit := range []string{r.ids[4], r.ids[7]} {
+		r.git("update-ref", "refs/heads/main", commit)
+		r.git("commit-graph", "write", "--reachable", "--split=no-merge")
+	}
+	chain := filepath.Join(r.info, "commit-graphs")
+	named := filepath.Join(chain, "commit-graph-chain")
+	lines, err := os.ReadFile(named)
+	if err != nil {
+		t.Fatal(err)
+	}
+	names := strings.Fields(string(lines))
+	upper := filepath.Join(chain, "graph-"+names[1]+".graph")
+	if data, err = os.ReadFile(upper); err != nil {
+		t.Fatal(err)
+	}
+	// The parents of its commits stand below it, so that it is changed where it stands.
+	changed := append([]byte{}, data[:len(data)-sha1.Size]...)
+	record := binary.BigEndian.Uint64(changed[bytes.Index(changed, []byte("CDAT"))+4:])
+	changed[record+31] ^= 64
+	checksum := sha1.Sum(changed)
+	renamed := filepath.Join(chain, "graph-"+hex.EncodeToString(checksum[:])+".graph")
+	if err := os.WriteFile(renamed, append(changed, checksum[:]...), 0o644); err != nil {
+		t.Fatal(err)
+	}
+	os.Remove(named)
+	if err := os.WriteFile(named, []byte(names[0]+"\n"+hex.EncodeToString(checksum[:])+"\n"), 0o644); err != nil {
+		t.Fatal(err)
+	}
+	_, err = Open(r.info, false)
+	var told *Error
+	if !errors.As(err, &told) || told.Layer != 1 || told.Code != 308 {
+		t.Fatal(err)
+	}
+	r.says(err, renamed+": ", hex.EncodeToString(told.Commit))
+	if r.git("cat-file", "-t", hex.EncodeToString(told.Commit)) != "commit" {
+		t.Error(err)
+	}
+	if err := os.WriteFile(named, nil, 0o644); err != nil {
+		t.Fatal(err)
+	}
+	_, err = Open(r.info, false)
+	r.refused(err, 201, 0, 0)
+	r.says(err, named+": ", "")
 }
 
 func TestWriting(t *testing.T) {
@@ -307,6 +400,8 @@ func TestWriting(t *testing.T) {
 	r.refused(err, 709, 0, 0)
 	_, err = WriteFile(append(told[:1:1], told[0]))
 	r.refused(err, 705, 1, 0)
+	r.same("a commit twice", err.Error(),
+		"a commit is handed in twice: commit 1 of those that were handed in, counted from 0; what to do: give each commit once")
 	_, err = WriteFile([]NewCommit{{told[0].ID, told[0].Tree, [][]byte{{1}}, 0}})
 	r.refused(err, 712, 0, 0)
 }
@@ -398,10 +493,12 @@ func TestGoroutines(t *testing.T) {
 
 func TestRefusals(t *testing.T) {
 	r := made(t)
-	if _, err := Open(r.info, false); !errors.Is(err, os.ErrNotExist) {
+	_, err := Open(r.info, false)
+	if !errors.Is(err, os.ErrNotExist) {
 		t.Error(err)
 	}
-	if _, err := Open("no/such/folder", false); !errors.Is(err, os.ErrNotExist) {
+	r.says(err, filepath.Join(r.info, "commit-graphs", "commit-graph-chain"), "")
+	if _, err := Open("no/such/folder", false); !errors.Is(err, os.ErrNotExist) || !strings.Contains(err.Error(), "check the path") {
 		t.Error(err)
 	}
 	r.git("commit-graph", "write", "--reachable")

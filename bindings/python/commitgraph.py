@@ -14,6 +14,7 @@ import errno
 import io
 import os
 import pathlib
+import shlex
 import stat
 from collections.abc import Iterator, Sequence
 from ctypes import POINTER, c_bool, c_size_t, c_uint8, c_uint32, c_uint64, c_void_p
@@ -215,15 +216,76 @@ SENTENCES = {
 }
 """What happened, for each number."""
 
+ANEW = (
+    "remove `.git/objects/info/commit-graph` and the folder `.git/objects/info/commit-graphs`, "
+    "and then run `git commit-graph write --reachable`"
+)
+FILTERS = "write it anew, with `--changed-paths` after the last command; to write it anew, " + ANEW
+ADVICE = {
+    Code.OUT_OF_MEMORY: "give the program more memory",
+    Code.OPEN_NOTHING_FOUND: "check the path",
+    Code.OPEN_NOT_OPENED: "`git commit-graph write --reachable` makes a commit-graph (not in a shallow repository); if there is one, "
+    "check permissions, and whether a layer is in another object folder, where it is not looked for",
+    Code.OPEN_READ_FAILED: "try again, and check the disk",
+    Code.GRAPH_TOO_MANY_COMMITS: "a commit-graph cannot hold more",
+    Code.CHECK_BASE_COUNT: "open the whole chain, by its folder; else write it anew: " + ANEW,
+    Code.CHECK_CHECKSUM: "check the disk, and write it anew: " + ANEW,
+    Code.CHECK_FILE_NAME: "give it its name back, or write it anew: " + ANEW,
+    Code.DATES_WRONG: "write it anew; where a time is past the year 2514, Git writes dates that are refused again, and "
+    "`git -c commitGraph.generationVersion=1 commit-graph write --reachable` writes none; to write it anew, " + ANEW,
+    Code.FILTERS_INDEX_SIZE: FILTERS,
+    Code.FILTERS_DATA_SIZE: FILTERS,
+    Code.FILTERS_VERSION: FILTERS,
+    Code.FILTERS_HASHES: FILTERS,
+    Code.FILTERS_NO_BITS: FILTERS,
+    Code.FILTERS_FALLS: FILTERS,
+    Code.FILTERS_PAST_END: FILTERS,
+    Code.FILTERS_LEFT_OVER: FILTERS,
+    Code.FILTERS_SETTINGS: FILTERS,
+    Code.OBJECT_OTHER_CONTENTS: "take the object from another copy of the repository",
+    Code.OBJECT_UNREADABLE: "see what `git fsck` says of it",
+    Code.OBJECT_TIME: "write it anew; where its time is past the year 2514, Git stores the low bits again, and the commit has to be "
+    "made anew, with another time; to write it anew, " + ANEW,
+    Code.WRITE_KIND: "hand in ids of one kind",
+    Code.WRITE_NULL_ID: "hand in its id",
+    Code.WRITE_NULL_TREE: "see what `git fsck` says of it",
+    Code.WRITE_TIME: "make the commit anew, with another time",
+    Code.WRITE_TWICE: "give each commit once",
+    Code.WRITE_BELOW: "give the commits that the graph lacks",
+    Code.WRITE_PARENT: "give all ancestors that the graph lacks",
+    Code.WRITE_CYCLE: "hand in the parents that its object names",
+    Code.WRITE_NOTHING: "see whether `git rev-list --all` lists any",
+    Code.WRITE_NO_IDS: "hand in whole ids",
+    Code.WRITE_TOO_MANY_LAYERS: "write the chain anew as one file",
+}
+"""What to do, as `cg_advice` of commitgraph.h has it: ANEW for the numbers from 24 to 700 that are not here."""
+
+
+def _advice(code: int) -> str:
+    return ADVICE.get(Code(code), ANEW if Code.OPEN_CHAIN_NOT_TEXT <= code < Code.WRITE_KIND else "")
+
 
 class Error(Exception):
-    """Why a graph was not opened, a question has no answer, or no layer was written; with what it is about: the layer or the
-    position, or the number of a question or of a commit that was handed in, and `other`, as in commitgraph.h."""
+    """Why a graph was not opened, a question has no answer, or no layer was written; with what it is about: the layer and the
+    `path` of its file, or the line of a chain file; the position, and the id of the `commit` there; or the number of a question or
+    of a commit that was handed in, and `other`, as in commitgraph.h. `advice` says what to do, with the commands to type."""
 
-    def __init__(self, code: int, layer: int = 0, position: int = 0, path: str = "", number: int = 0, other: int = 0) -> None:
+    def __init__(
+        self, code: int, layer: int = 0, position: int = 0, path: str = "", number: int = 0, other: int = 0, commit: bytes = b""
+    ) -> None:
         self.code, self.layer, self.position, self.path = Code(code), layer, position, path
-        self.number, self.other = number, other
-        super().__init__((path + ": " if path else "") + SENTENCES[self.code])
+        self.number, self.other, self.commit, self.advice = number, other, commit, _advice(code)
+        super().__init__(self._said())
+
+    def _said(self) -> str:
+        said = (self.path + ": " if self.path else "") + SENTENCES[self.code]
+        if self.code == Code.OPEN_CHAIN_NOT_TEXT:
+            said += f": line {self.layer}, counted from 0"
+        elif Code.WRITE_KIND <= self.code <= Code.WRITE_CYCLE or self.code == Code.WRITE_NO_IDS:
+            said += f": commit {self.number} of those that were handed in, counted from 0"
+        elif self.commit:
+            said += f"; the commit at position {self.position} is {self.commit.hex()}"
+        return said + ("; what to do: " + self.advice if self.advice else "")
 
 
 class _Graph(ctypes.Structure):
@@ -251,6 +313,10 @@ class _Verdict(ctypes.Structure):
         *((name, c_uint32) for name in ("code", "num_commits", "longest", "has_longest", "position", "other", "called")),
         *((name, c_uint64) for name in ("layer", "index", "kinds")),
     )
+
+
+class _Layer(ctypes.Structure):
+    _fields_ = tuple((name, c_uint32) for name in ("first", "num_commits", "bases", "hash"))
 
 
 class _Commit(ctypes.Structure):
@@ -313,6 +379,7 @@ class _Line(ctypes.Structure):
 
 CALLS = {
     "cg_version": (c_uint32, ()),
+    "cg_open": (_Error, (POINTER(_File), c_size_t, POINTER(_Graph))),
     "cg_open_checked": (_Error, (POINTER(_File), c_size_t, c_bool, POINTER(_Verdict), c_void_p, c_size_t, POINTER(_Graph))),
     "cg_open_known": (
         _PathError,
@@ -325,6 +392,7 @@ CALLS = {
     "cg_flag_free": (c_bool, (_Flag,)),
     "cg_num_commits": (c_uint32, (_Graph,)),
     "cg_id_len": (c_size_t, (_Graph,)),
+    "cg_layer": (c_bool, (_Graph, c_uint64, POINTER(_Layer))),
     "cg_lookup": (c_uint32, (_Graph, c_void_p, c_size_t)),
     "cg_lookup_all": (c_uint64, (_Graph, c_void_p, c_size_t, c_size_t, c_void_p, c_size_t)),
     "cg_id_at": (c_size_t, (_Graph, c_uint32, c_void_p, c_size_t)),
@@ -343,17 +411,36 @@ CALLS = {
 """What each call that is used here answers and takes."""
 
 
+CLONE = pathlib.Path(__file__).resolve().parent / "../.."
+"""The clone that this file is in, if it is in one."""
+
+
+def _path() -> str:
+    """The path of the library, or its name for the system, where neither a folder is named nor this clone has built it."""
+    named, built = os.environ.get("COMMITGRAPH_LIB"), CLONE / "crates/commitgraph_c/out/libcommitgraph.so"
+    return os.path.join(named, "libcommitgraph.so") if named else str(built) if built.exists() else "libcommitgraph.so.0"
+
+
 def _load() -> ctypes.CDLL:
-    named = os.environ.get("COMMITGRAPH_LIB")
-    built = pathlib.Path(__file__).resolve().parents[2] / "crates/commitgraph_c/out/libcommitgraph.so"
-    path = os.path.join(named, "libcommitgraph.so") if named else str(built) if built.exists() else "libcommitgraph.so.0"
-    library = ctypes.CDLL(path)
+    path = _path()
+    try:
+        library = ctypes.CDLL(path)
+    except OSError as error:
+        raise ImportError(f"{error}; what to do: {_how_to_install()}", path=path) from error
+    version = getattr(library, "cg_version", lambda: 0)()
+    if version != VERSION:
+        raise ImportError(f"{path} is of version {version}, and not {VERSION}; what to do: {_how_to_install()}", path=path)
     for name, (answer, taken) in CALLS.items():
         call = getattr(library, name)
         call.restype, call.argtypes = answer, taken
-    if library.cg_version() != VERSION:
-        raise ImportError("%s is of version %d, and not %d" % (path, library.cg_version(), VERSION))
     return library
+
+
+def _how_to_install() -> str:
+    """How the library comes to where it is looked for."""
+    script = (CLONE / "scripts/library").resolve()
+    build = shlex.quote(str(script)) if script.exists() else "scripts/library in a clone of Nolavimure"
+    return f"run {build}, which proves and builds it; or after scripts/install PREFIX let COMMITGRAPH_LIB name the folder PREFIX/lib"
 
 
 _library = _load()
@@ -417,24 +504,21 @@ class Graph:
         """The graph of layers, each given by its bytes and the path of its file, the lowest first; with `distinct_ids` only
         where no id stands in two layers."""
         self._graph = _Graph(None, False)
-        kept = [(data, path.encode("utf-8", "replace")) for data, path in layers]
-        files = (_File * len(kept))(*(_File(_at(data), len(data), _at(path), len(path)) for data, path in kept))
+        files, _kept = _files(layers)
         verdict, counts = _Verdict(), (c_uint32 * 2)()
-        error = _library.cg_open_checked(files, len(kept), distinct_ids, verdict, counts, 0, self._graph)
+        error = _library.cg_open_checked(files, len(layers), distinct_ids, verdict, counts, 0, self._graph)
         if error.code:
-            layer = verdict.layer
-            named = layers[layer][1] if error.code < Code.GRAPH_NO_FILES and layer < len(layers) else ""
-            raise Error(error.code, layer, verdict.position, named)
+            raise _fault(error.code, verdict, layers)
 
     @classmethod
-    def _checked(cls, opened: _Graph, distinct_ids: bool, limit: _Limit) -> "Graph":
-        """The graph that was opened, which is checked, and closed where it is refused."""
+    def _checked(cls, opened: _Graph, distinct_ids: bool, limit: _Limit, layers: Sequence[tuple[bytes, str]]) -> "Graph":
+        """The graph that was opened of these layers, which is checked, and closed where it is refused."""
         graph = cls.__new__(cls)
         graph._graph = _Graph(None, False)
         verdict, counts = _Verdict(), (c_uint32 * 2)()
         code = _library.cg_check_within(opened, distinct_ids, limit, verdict, counts, 0, graph._graph)
         if code:
-            raise Error(code, verdict.layer, verdict.position)
+            raise _fault(code, verdict, layers)
         return graph
 
     def close(self) -> None:
@@ -555,6 +639,56 @@ class Graph:
         return bytes(out[:size])
 
 
+def _files(layers: Sequence[tuple[bytes, str]]) -> "tuple[ctypes.Array[_File], object]":
+    """Layers for C, and what has to be kept as long as C reads them."""
+    kept = [(data, path.encode("utf-8", "replace")) for data, path in layers]
+    return (_File * len(kept))(*(_File(_at(data), len(data), _at(path), len(path)) for data, path in kept)), kept
+
+
+def _is_of_commit(code: int) -> bool:
+    """Whether a refusal is of one commit, at its position."""
+    return (
+        Code.CHECK_PARENT_OUT_OF_RANGE <= code <= Code.CHECK_DUPLICATE_ID
+        or Code.CHECK_NULL_ID <= code <= Code.PARENT_EDGE_OVERFLOW
+        or Code.DATES_OVERFLOW_INDEX <= code <= Code.DATES_WRONG
+    )
+
+
+OF_NO_LAYER = (Code.GRAPH_NO_FILES, Code.GRAPH_TOO_MANY_COMMITS, Code.CHECK_TOO_MANY_FILES)
+"""The numbers above 100 of what is wrong with no layer by itself."""
+
+
+def _fault(code: int, verdict: _Verdict, layers: Sequence[tuple[bytes, str]]) -> Error:
+    """The refusal of layers, with the file and the commit of which it speaks: the graph of the same layers, which is opened without a
+    check, has the commit."""
+    layer, path, commit = verdict.layer, "", b""
+    if _is_of_commit(code):
+        (files, _kept), graph = _files(layers), _Graph(None, False)
+        _library.cg_open(files, len(layers), graph)
+        layer, commit = _commit_at(graph, verdict.position)
+        _library.cg_close(graph)
+        path = layers[layer][1] if commit else ""
+    elif code == Code.CHECK_TOO_MANY_FILES:
+        path = _beside(layers[0][1])
+    elif code == Code.PATH_NOT_UTF8 or code > 100 and code not in OF_NO_LAYER:
+        path = layers[layer][1]
+    return Error(code, layer, verdict.position, path, commit=commit)
+
+
+def _commit_at(graph: _Graph, position: int) -> tuple[int, bytes]:
+    """The layer of a position, and the id there, or none where no graph is open."""
+    layer, told, out = 0, _Layer(), (c_uint8 * 32)()
+    while _library.cg_layer(graph, layer, told) and position - told.first >= told.num_commits:
+        layer += 1
+    size = _library.cg_id_at(graph, position, out, _library.cg_id_len(graph))
+    return layer, bytes(out[:size])
+
+
+def _beside(path: str) -> str:
+    """The path of the chain file beside a layer, or its own."""
+    return os.path.join(os.path.dirname(path), "commit-graph-chain") if path else ""
+
+
 def write_file(commits: Sequence[NewCommit]) -> bytes:
     """The bytes of the file with these commits, in any order, as the only layer: what Git writes of them, without changed-path
     filters. The checksum, by which the file of a chain is named graph-X.graph, is its end."""
@@ -572,7 +706,8 @@ def _written_file(below: _Graph, commits: Sequence[NewCommit]) -> bytes:
     file = _Bytes(None, False)
     told = _library.cg_write(below, handed, len(commits), file)
     if told.code:
-        raise Error(told.code, told.layer, told.position, number=told.commit, other=told.other)
+        commit = _commit_at(below, told.position)[1] if _is_of_commit(told.code) else b""
+        raise Error(told.code, told.layer, told.position, number=told.commit, other=told.other, commit=commit)
     try:
         size = _library.cg_bytes_copy(file, 0, _at(b""), 0)
         out = ctypes.create_string_buffer(size)
@@ -696,9 +831,22 @@ def _refusal(told: _PathError, root: bytes, path: bytes, known: list[_Standing])
     whole = os.fsdecode(os.path.join(root, path) if path else root)
     if told.code in (Code.OPEN_NOTHING_FOUND, Code.OPEN_NOT_OPENED, Code.OPEN_READ_FAILED):
         said = (it.error for it in known if it.path == path)
-        return next(said, FileNotFoundError(errno.ENOENT, os.strerror(errno.ENOENT), whole))
-    is_of_file = told.code < Code.GRAPH_NO_FILES and told.code != Code.OUT_OF_MEMORY
-    return Error(told.code, told.layer, path=whole if is_of_file else "")
+        error = next(said, FileNotFoundError(errno.ENOENT, os.strerror(errno.ENOENT), whole))
+        return OSError(error.errno, f"{error.strerror}; what to do: {_advice(told.code)}; the path is", os.fsdecode(error.filename))
+    is_of_chain = told.code == Code.OPEN_CHAIN_NOT_TEXT or told.code >= Code.GRAPH_NO_FILES
+    return Error(told.code, told.layer, path="" if told.code == Code.OUT_OF_MEMORY else _beside(whole) if is_of_chain else whole)
+
+
+def _layers(root: bytes, asked: bytes, known: list[_Standing]) -> list[tuple[bytes, str]]:
+    """The layers of the graph that was opened, the lowest first, by their bytes and paths: those that a chain file names, which stand
+    behind it, since it is asked for only where the chain is opened; else the one file."""
+    read = [it for it in known if it.kind == READ]
+    is_chain = [it.path != asked and it.path.endswith(b"commit-graph-chain") for it in read]
+    if any(is_chain):
+        read = read[is_chain.index(True) + 1 :]
+    else:
+        read = [it for it in read if it.path == asked or it.path.endswith(b"commit-graph")][:1]
+    return [(it.data, os.fsdecode(os.path.join(root, it.path) if it.path else root)) for it in read]
 
 
 def open(
@@ -720,4 +868,4 @@ def open(
         if file is None:
             raise
         opened = _opened(root, file, FILE, known)
-    return Graph._checked(opened, distinct_ids, _limit(visits, flag))
+    return Graph._checked(opened, distinct_ids, _limit(visits, flag), _layers(root, asked, known))

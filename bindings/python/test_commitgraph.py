@@ -1,8 +1,12 @@
 """Over a commit-graph that Git writes: what the module answers is what Git says."""
 
+import ctypes.util
+import hashlib
 import os
 import pathlib
+import shutil
 import subprocess
+import sys
 import tempfile
 import unittest
 from collections.abc import Callable
@@ -68,10 +72,24 @@ class OverGit(unittest.TestCase):
             self.refused(Code.NO_SUCH_POSITION, lambda: graph.is_ancestor(0, none))
             self.refused(Code.NO_SUCH_POSITION, lambda: graph.compare(0, [none]))
 
-    def refused(self, code: Code, call: Callable[[], object], **told: int) -> None:
+    def refused(self, code: Code, call: Callable[[], object], **told: object) -> None:
         with self.assertRaises(Error) as raised:
             call()
         self.assertEqual((raised.exception.code, {name: getattr(raised.exception, name) for name in told}), (code, told))
+
+    def says(self, call: Callable[[], object], *words: str) -> None:
+        """What is raised names these, and what to type."""
+        with self.assertRaises((Error, OSError)) as raised:
+            call()
+        for word in (*words, "git commit-graph write --reachable"):
+            self.assertIn(word, str(raised.exception))
+
+    def misnumbered(self, data: bytes) -> tuple[bytes, str]:
+        """A file with another generation number of its first commit, and the checksum of its bytes; and the id of that commit."""
+        changed, table = bytearray(data[:-20]), data[8 : 8 + 12 * (data[6] + 1)]
+        ids, records = (int.from_bytes(table[table.index(name) + 4 :][:8], "big") for name in (b"OIDL", b"CDAT"))
+        changed[records + 31] ^= 64
+        return bytes(changed) + hashlib.sha1(changed).digest(), data[ids : ids + 20].hex()
 
     def commits(self, revisions: str) -> list[NewCommit]:
         """What Git says of commits."""
@@ -102,7 +120,7 @@ class OverGit(unittest.TestCase):
     def test_commits_that_are_refused(self) -> None:
         one, two = NewCommit(b"\1" * 20, b"\1" * 20, [], 5), NewCommit(b"\2" * 20, b"\1" * 20, [b"\1" * 20], 5)
         for handed, code, told in (
-            ([], Code.WRITE_NOTHING, {}),
+            ([], Code.WRITE_NOTHING, {"advice": "see whether `git rev-list --all` lists any"}),
             ([one, one], Code.WRITE_TWICE, {"number": 1, "other": 0}),
             ([one, two._replace(parents=[b"\1" * 20, b"\3" * 20])], Code.WRITE_PARENT, {"number": 1, "other": 1}),
             ([one, two._replace(parents=[b"\1" * 40])], Code.WRITE_NO_IDS, {"number": 1}),
@@ -145,8 +163,10 @@ class OverGit(unittest.TestCase):
         self.assertLess(len(commitgraph.open(self.info)), whole)
         file.write_bytes(low.read_bytes()[:-1] + b"\7")
         self.refused(Code.CHECK_CHECKSUM, lambda: commitgraph.open(self.info))
+        self.says(lambda: commitgraph.open(self.info), f"{file}: the checksum ", "check the disk")
         (chain / "commit-graph-chain").write_bytes(lines + b"\xff\n")
         self.refused(Code.OPEN_CHAIN_NOT_TEXT, lambda: commitgraph.open(chain), layer=2)
+        self.says(lambda: commitgraph.open(chain), f"{chain}/commit-graph-chain: a line ", ": line 2, counted from 0; ")
         named = os.fsencode(self.folder.name) + b"/\xff"
         os.rename(self.info, named)
         (pathlib.Path(os.fsdecode(named)) / "commit-graph").unlink()
@@ -157,7 +177,7 @@ class OverGit(unittest.TestCase):
         low.unlink()
         with self.assertRaises(FileNotFoundError) as raised:
             commitgraph.open(os.fsdecode(named))
-        self.assertEqual(raised.exception.filename, os.fsencode(low))
+        self.assertEqual(os.fsencode(raised.exception.filename), os.fsencode(low))
         (pathlib.Path(os.fsdecode(named)) / "commit-graphs/commit-graph-chain").unlink()
         (pathlib.Path(os.fsdecode(named)) / "commit-graph").write_bytes(b"CGPH")
         self.refused(Code.FILE_TOO_SHORT, lambda: commitgraph.open(os.fsdecode(named)))
@@ -179,6 +199,43 @@ class OverGit(unittest.TestCase):
                 self.refused(Code.STOPPED, lambda: commitgraph.open(self.info, **narrow))
         self.refused(Code.STOPPED, lambda: commitgraph.open(self.info, visits=6), position=6)
 
+    def test_faults(self) -> None:
+        """The layer and the commit of which a check speaks are told, of a file by its bytes, and of a chain by its path."""
+        self.says(lambda: commitgraph.open(self.info), "commit-graphs/commit-graph-chain")
+        self.git("commit-graph", "write", "--reachable")
+        bad, commit = self.misnumbered((self.info / "commit-graph").read_bytes())
+        self.says(lambda: Graph([(bad, "a file")]), "a file: the generation number ", f"; the commit at position 0 is {commit}; ")
+        (self.info / "commit-graph").unlink()
+        for tip in (self.ids[4], self.ids[-1]):
+            self.git("update-ref", "refs/heads/main", tip)
+            self.git("commit-graph", "write", "--reachable", "--split=no-merge")
+        chain = self.info / "commit-graphs"
+        low, high = (chain / "commit-graph-chain").read_text().split()
+        bad, commit = self.misnumbered((chain / f"graph-{high}.graph").read_bytes())
+        renamed = chain / f"graph-{bad[-20:].hex()}.graph"
+        renamed.write_bytes(bad)
+        (chain / "commit-graph-chain").unlink()
+        (chain / "commit-graph-chain").write_text(f"{low}\n{bad[-20:].hex()}\n")
+        self.says(lambda: commitgraph.open(self.info), f"{renamed}: ", f" is {commit}; ")
+        self.refused(Code.CHECK_GENERATION, lambda: commitgraph.open(self.info), layer=1, commit=bytes.fromhex(commit))
+        (chain / "commit-graph-chain").write_text("")
+        self.says(lambda: commitgraph.open(chain), f"{chain}/commit-graph-chain: the chain file names no layer")
+
+    def test_without_the_library(self) -> None:
+        """Where there is no library, or another one, what is said names it, and what to type."""
+        shutil.copy(commitgraph.__file__, self.folder.name)
+        at = {**os.environ, "PYTHONPATH": self.folder.name, "LD_LIBRARY_PATH": ""}
+        for named, words in (
+            ("", ["libcommitgraph.so.0: ", "scripts/library in a clone", "scripts/install PREFIX"]),
+            ("no/such/folder", ["no/such/folder/libcommitgraph.so: ", "COMMITGRAPH_LIB name the folder PREFIX/lib"]),
+        ):
+            if not named and ctypes.util.find_library("commitgraph"):
+                continue
+            command = [sys.executable, "-B", "-c", "import commitgraph"]
+            done = subprocess.run(command, env={**at, "COMMITGRAPH_LIB": named}, capture_output=True, text=True, cwd="/")
+            for word in ("ImportError: ", *words):
+                self.assertIn(word, done.stderr)
+
     def test_refusals(self) -> None:
         self.git("commit-graph", "write", "--reachable")
         data = (self.info / "commit-graph").read_bytes()
@@ -190,8 +247,9 @@ class OverGit(unittest.TestCase):
             with self.assertRaises(Error) as raised:
                 Graph(layers)
             self.assertEqual(raised.exception.code, code)
-        with self.assertRaises(OSError):
+        with self.assertRaises(FileNotFoundError) as missing:
             commitgraph.open("no/such/folder")
+        self.assertIn("check the path; the path is: 'no/such/folder'", str(missing.exception))
 
 
 if __name__ == "__main__":

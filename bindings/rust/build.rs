@@ -12,14 +12,23 @@ fn main() {
     println!("cargo:rerun-if-env-changed=COMMITGRAPH_LIB");
     let folders = match env::var("COMMITGRAPH_LIB") {
         Ok(named) => named.split(':').map(whole).collect(),
-        Err(_) => vec![PathBuf::from(env!("CARGO_MANIFEST_DIR")).join("../../crates/commitgraph_c/out")],
+        Err(_) => vec![clone().join("crates/commitgraph_c/out")],
     };
     if !link_first(&folders) && !link_installed() {
-        panic!(
-            "libcommitgraph.a is not in {folders:?}: run scripts/library at the top of the clone, \
-             or let COMMITGRAPH_LIB name the folder that has it"
+        let places: Vec<_> = folders.iter().map(|folder| folder.join("libcommitgraph.a").display().to_string()).collect();
+        eprintln!(
+            "there is no {}, and pkg-config knows no commitgraph; what to do: run scripts/library at the top of the clone, which \
+             proves and builds it; or after scripts/install PREFIX let COMMITGRAPH_LIB name the folder PREFIX/lib",
+            places.join(", and no ")
         );
+        std::process::exit(1);
     }
+}
+
+/// The top of the clone that this crate is in.
+fn clone() -> PathBuf {
+    let folder = PathBuf::from(env::var_os("CARGO_MANIFEST_DIR").expect("Cargo names it")).join("../..");
+    folder.canonicalize().unwrap_or(folder)
 }
 
 /// A folder by its whole path. One that is not whole begins where Cargo was started.

@@ -13,6 +13,7 @@ import chunked
 import concurrent.futures
 import functools
 import gix
+import hashlib
 import large
 import layout
 import os
@@ -46,7 +47,7 @@ SANITIZED = "-Zsanitizer=thread -Cunsafe-allow-abi-mismatch=sanitizer"
 """Flags of a nightly Rust compiler. Its standard library is not built with them."""
 CALLING_ALL = ("ask.c", "large.c", "memory.c", "threads.c")
 """The programs that make each call. Those of layout.c are the calls that write a struct."""
-IN_HEADER = {"cg_strerror", "cg_closed", "cg_no_bytes", "cg_no_flag", "cg_not_lent"}
+IN_HEADER = {"cg_strerror", "cg_advice", "cg_closed", "cg_no_bytes", "cg_no_flag", "cg_not_lent"}
 """Functions that the header has whole."""
 STRICT = ["-D_GNU_SOURCE", "-Wall", "-Wextra", "-Wpedantic", "-Werror"]
 COUNTING = threading.Lock()
@@ -425,7 +426,7 @@ def rust_tests(crate, environment):
     """The tests of the Rust crate, and that of its threads under ThreadSanitizer, where a toolchain can."""
     done = run("cargo", "test", "--quiet", "--offline", cwd=crate, env=environment)
     expect("Rust: tests", done.returncode == 0 and "4 threads read" in done.stdout, done)
-    expect("Rust: the tests are all made", all(f"{n} passed" in done.stdout for n in (23, 4)), done)
+    expect("Rust: the tests are all made", all(f"{n} passed" in done.stdout for n in (25, 4)), done)
     command = ["cargo", "+nightly", "test", "--quiet", "--offline", "--test", "threads", "--target", "x86_64-unknown-linux-gnu"]
     at = {**environment, "RUSTFLAGS": SANITIZED}
     if run(*command, "--no-run", cwd=crate, env=at).returncode:
@@ -570,6 +571,29 @@ def example(compiler, archive, scratch, graphs):
         commits, record, *rest = done.stdout.splitlines() or ["", ""]
         expect(f"{compiler}: example, {kind}", (done.returncode, commits, rest) == (0, "11 commits", parents), done)
         expect(f"{compiler}: example, time", record.endswith(" time 1000000000"), done)
+        refused_example(compiler, program, graph.read_bytes(), kind)
+    done = run(program, "no/such/file", ids[-1])
+    told = "no/such/file: " in done.stderr and "`git commit-graph write --reachable` makes" in done.stderr
+    expect(f"{compiler}: example, no file", done.returncode == 2 and told, done)
+
+
+def refused_example(compiler, program, data, kind):
+    """What the example says of a damaged file, and of one with another generation number of its first commit."""
+    path, size = program.parent / "refused", hashlib.new(kind).digest_size
+    ids, records = (int.from_bytes(data[data.index(name) + 4 :][:8], "big") for name in (b"OIDL", b"CDAT"))
+    changed = bytearray(data[:-size])
+    changed[records + size + 11] ^= 64
+    sealed = bytes(changed) + hashlib.new(kind, changed).digest()
+    commit = f"the commit at position 0 is {data[ids : ids + size].hex()}\n"
+    for title, content, words in (
+        ("a checksum", data[:-1] + bytes([data[-1] ^ 1]), ["the checksum ", "\nwhat to do: check the disk, "]),
+        ("a generation number", sealed, ["the generation number ", "\n" + commit + "what to do: remove `.git/"]),
+        ("an empty file", b"", ["the file has fewer than 1100 bytes", "\nwhat to do: remove `.git/"]),
+    ):
+        path.write_bytes(content)
+        done = run(program, path, "00" * size)
+        right = done.returncode == 1 and done.stderr.startswith(f"refused: {path}: ") and all(word in done.stderr for word in words)
+        expect(f"{compiler}: example, {kind}, {title}", right, done)
 
 
 def installed(compilers, scratch, graphs):
@@ -666,7 +690,7 @@ def python(library):
         return
     tests = TOP / "bindings/python/test_commitgraph.py"
     done = run(sys.executable, "-B", tests, env={**os.environ, "COMMITGRAPH_LIB": str(library.parent)})
-    expect("Python: tests", done.returncode == 0 and "Ran 7 tests" in done.stderr, done)
+    expect("Python: tests", done.returncode == 0 and "Ran 9 tests" in done.stderr, done)
 
 
 def parts(archive, scratch, graphs):

@@ -45,9 +45,10 @@ class Shown:
         with open(self.list, "w", encoding="ascii") as file:
             file.write("".join(commit + "\n" for commit in ids))
 
-    def put(self, lines, status=0, also=""):
+    def put(self, lines, status=0, also="", slow=":"):
         """Lets the program show these lines, and end with this status."""
-        text = "case $1 in\nshow)\n%s\ncat <<'END'\n%sEND\nexit %d ;;\nids) cat '%s' ;;\nesac\n" % (also, lines, status, self.list)
+        text = "case $1 in\nshow)\n%s\ncat <<'END'\n%sEND\nexit %d ;;\nids) %s; cat '%s' ;;\nesac\n"
+        text %= (also, lines, status, slow, self.list)
         self.clone.put_program("historytool", text)
 
     def ask(self, *words):
@@ -82,6 +83,11 @@ def check_files(results, shown):
     results.check("git cgraph show", exactly(shown.ask(), 0, out))
     results.check("git cgraph show -q", exactly(shown.ask("-q"), 0, ""))
     results.check("git cgraph show --no-progress", exactly(shown.ask("--no-progress"), 0, out))
+    shown.put(LAYER % (0, 0) + WHOLE % 1 + "right\n", slow="sleep 2.2")
+    answer = shown.ask("--progress")
+    right = answer[:2] == (0, out) and "\nComparing commits: 1 s\r" in answer.err and answer.err.endswith(" s, done.\n")
+    results.check("git cgraph show --progress", None if right else "it is %r" % (answer,))
+    shown.put(LAYER % (0, 0) + WHOLE % 1 + "right\n")
 
 
 def check_lacking(results, shown):

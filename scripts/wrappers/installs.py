@@ -113,6 +113,10 @@ def check_beside(results, clone, prefix):
         with open(os.path.join(prefix, name), "w", encoding="ascii") as file:
             file.write("other\n")
     before = below(prefix)
+    answer = install(clone, "prefix/bin/other/prefix", cwd=os.path.dirname(prefix))
+    right = answer[:2] == (1, "") and "install: '%s/bin/other' is not a folder" % prefix in answer.err and below(prefix) == before
+    results.check("scripts/install, below a file", None if right else "it is %r" % (answer,))
+    check_closed(results, clone, prefix)
     os.symlink("other", os.path.join(prefix, "bin", "graphtool"))
     answer = install(clone, "prefix", cwd=os.path.dirname(prefix))
     right = answer[:2] == (1, "") and "bin/graphtool is there" in answer.err and below(prefix) == before | {"bin/graphtool"}
@@ -124,6 +128,17 @@ def check_beside(results, clone, prefix):
     answer = install(clone, "--remove", prefix)
     complaint = exactly(answer, 0, "") or (None if below(prefix) == before else "there is %s" % sorted(below(prefix) ^ before))
     results.check("scripts/install --remove, beside other files", complaint)
+
+
+def check_closed(results, clone, prefix):
+    """A prefix that may not be written is refused before anything is proved. Whoever may write everywhere is not asked."""
+    folder = os.path.join(prefix, "lib")
+    os.chmod(folder, 0o555)
+    if not os.access(folder, os.W_OK):
+        answer = install(clone, prefix)
+        right = answer[:2] == (1, "") and "install: the folder '%s' may not be written" % folder in answer.err
+        results.check("scripts/install, where nothing may be written", None if right else "it is %r" % (answer,))
+    os.chmod(folder, 0o755)
 
 
 def check_pages(results, clone, prefix):

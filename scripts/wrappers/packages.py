@@ -65,8 +65,9 @@ def check_debian(results, clone, made, root):
     files = {path[len("usr/"):] for path in below(root) if path.startswith("usr/") and not path.endswith("/")}
     documents = "share/doc/git-cgraph/"
     pages = {path for path in INSTALLED if path.startswith("share/man/")}
-    left = {documents + "LICENSE-MIT", documents + "LICENSE-APACHE", *pages, LIST}
-    right = answer.status == 0 and files == INSTALLED - left | {documents + "copyright", *(page + ".gz" for page in pages)}
+    left = {documents + "LICENSE-MIT", documents + "LICENSE-APACHE", "share/zsh/site-functions/_git-cgraph", *pages, LIST}
+    more = {documents + "copyright", "share/zsh/vendor-completions/_git-cgraph", *(page + ".gz" for page in pages)}
+    right = answer.status == 0 and files == INSTALLED - left | more
     results.check("the package for Debian is installed", None if right else "it is %r with %s" % (answer, sorted(files)))
     check_commands(results, clone, "the package for Debian", os.path.join(root, "usr"))
     answer = run([*dpkg, "--purge", "git-cgraph"], variables)

@@ -299,7 +299,8 @@ def check_revisions(results, clone, repository):
     os.rename(path, path + b" aside")
     for name in ("annotated", "HEAD~1", before):
         answer = ask(clone, ["find", name], repository)
-        right = answer[:2] == (128, "") and "git cgraph: the object that '%s' names is missing, or cannot be read" % name in answer.err
+        said_so = "git cgraph: the object that '%s' names is missing, or cannot be read" % name in answer.err
+        right = answer[:2] == (128, "") and said_so and answer.err.endswith(":\n    git fsck\n")
         results.check("git cgraph find %a, whose commit is missing" % name, None if right else "it is %r" % (answer,))
     os.rename(path + b" aside", path)
     answer = ask(clone, ["verify"], clone.folder)

@@ -62,7 +62,7 @@ def check_all(results):
     with tempfile.TemporaryDirectory() as folder:
         clone = Clone(folder)
         own, other = Repository(clone, folder), Repository(clone, folder, b"a pool's \"\n\xff")
-        for check in (check_places, check_scattered, check_named, check_quarantine, check_refused, check_quiet, check_written, check_all_checks):
+        for check in (check_moved, check_grafted, check_places, check_scattered, check_named, check_quarantine, check_refused, check_quiet, check_written, check_all_checks):
             check(results, own, other)
             own.clear()
             other.clear()
@@ -118,6 +118,32 @@ def check_scattered(results, own, other):
     start = "<verify><chain>\n%s\n%s\n%s\n%s\n" % (*NAMES, os.fsdecode(lower), os.fsdecode(upper))
     right = answer.status == 0 and answer.out.startswith(start) and not answer.err
     results.check("git cgraph, a chain over a pool's layer", None if right else "it is %r" % (answer,))
+
+
+def check_moved(results, own, _other):
+    """Where Git was called with -C, the commands of a cure name the repository: the variable PWD tells where the shell stands."""
+    own.put("commit-graph", HEADS["sha1"])
+    own.clone.put_program("graphtool", "echo 'refused verify 1'\nexit 1\n")
+    folder = os.path.realpath(os.fsdecode(own.folder))
+    for place, by in ((folder, "git"), (os.path.dirname(folder), "git --git-dir='%s/.git'" % folder), ("", "git")):
+        cure = ["rm -rf '%s/.git/objects/info/commit-graph'" % folder, by + " commit-graph write --reachable"]
+        err = said(refusals.sentences(refusals.read_rows(), "refused verify 1", "verify", refusals.Known("", "", cure)))
+        answer = own.ask("verify", PWD=place)
+        results.check("git cgraph verify, asked from %r" % place, exactly(answer, 1, "refused verify 1\n", err))
+
+
+def check_grafted(results, own, _other):
+    """Beside an answer it is said that Git goes by other parents, and not beside a refusal."""
+    own.put("commit-graph", HEADS["sha1"])
+    grafts = os.path.join(own.objects, b"../info/grafts")
+    with open(grafts, "w", encoding="ascii") as file:
+        file.write(git(own.clone, own.folder, "rev-parse", "HEAD~1") + "\n")
+    for line, status, beside in (("no", 1, True), ("refused verify 1", 1, False), ("unknown 1", 1, False), ("yes", 0, True)):
+        own.clone.put_program("historytool", "echo '%s'\nexit %d\n" % (line, status))
+        answer = own.ask("is-ancestor", "HEAD", "HEAD~1")
+        right = answer.out == line + "\n" and ("gives commits other parents: Git answers by those" in answer.err) == beside
+        results.check("git cgraph is-ancestor, with grafts, %s" % line, None if right else "it is %r" % (answer,))
+    os.remove(grafts)
 
 
 def quoted_for_git(path):

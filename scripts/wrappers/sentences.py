@@ -1,5 +1,6 @@
 """Checks that each row of docs/REFUSALS.md is what a wrapper says of its line."""
 
+import os
 import tempfile
 
 import refusals
@@ -27,6 +28,7 @@ def check_all(results):
         check_no_id(results, clone, rows)
         check_other_line(results, clone)
         check_info_folder(results, clone, rows)
+        check_files(results, clone, rows)
         check_cut_short(results, clone)
         results.check("sentences, nothing is left over", clone.left_over())
 
@@ -97,6 +99,31 @@ def check_info_folder(results, clone, rows):
         answer = clone.run(["graphtool", "verify", path])
         title = "an info folder whose file was refused, with%s a chain" % ("" if chain else "out")
         results.check(title, right(answer, line, "verify", refusals.sentences(rows, line, "verify", known)))
+
+
+def check_files(results, clone, rows):
+    """The file of the layer is named, by its number or by a position, at whatever path it was found."""
+    single, chain, info = ("%s/%s" % (clone.folder, name) for name in ("single", "of/commit-graphs", "of"))
+    clone.put("single", "")
+    clone.put("of/commit-graphs/commit-graph-chain", "aa\nbb\n")
+    for layer in ("aa", "bb"):
+        clone.put("of/commit-graphs/graph-%s.graph" % layer, "")
+    clone.put_program("graphtool", "echo 'layer sha1 bases 0 commits 2'\nprintf '%d ab - 1 5 -\\n' 0 1\n")
+    above = "layer 1 is '%s/graph-bb.graph'" % chain
+    for path, line, where, id_line in (
+        (single, "refused verify 4 layer 0 fault 1", "the file is '%s'" % single, []),
+        (single, "refused dates 3 position 1", "the file is '%s'" % single, ["the commit at position 1 is ab"]),
+        *((path, "refused open 5 layer 1 file 2", above, []) for path in (chain, info)),
+        *((path, "refused verify 5 position 3 fault 1", above, ["the commit at position 3 is ab"]) for path in (chain, info)),
+        (info, "refused open 6 graph 1", "the chain file is '%s/commit-graph-chain'" % chain, []),
+        (info, "refused filters 10", "", []),
+    ):
+        clone.put_program("historytool", "echo '%s'\nexit 1\n" % line)
+        answer = clone.run(["historytool", "check", path])
+        said = id_line + refusals.sentences(rows, line, "check", refusals.Known(where))
+        err = "".join("historytool: %s\n" % sentence for sentence in said)
+        title = "the file of %r at %s" % (line, os.path.basename(path))
+        results.check(title, exactly(answer, 1, line + "\n", err))
 
 
 def check_cut_short(results, clone):

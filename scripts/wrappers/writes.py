@@ -3,6 +3,7 @@ scripts: a file has a header, a line for each commit, and twenty letters as its 
 """
 
 import os
+import re
 import shutil
 import signal
 import stat
@@ -152,6 +153,7 @@ def check_all(results):
             if shutil.which(shell[0]) and "--posix" not in shell:
                 check_file(results, written, shell)
                 check_layers(results, written, shell)
+                check_waiting(results, written, shell)
         for check in (check_told, check_locked, check_unused, check_refused, check_failures, check_objects, check_signals):
             written.clear()
             check(results, written)
@@ -174,6 +176,19 @@ def check_file(results, written, shell):
         right = list(files) == ["commit-graph"] and files["commit-graph"][1] == 0o444
         right = right and ids_in(files["commit-graph"][0]) == sorted(ids)
         results.check("%s over %s, the file" % (title, before), None if right else "there are %r" % files)
+
+
+def check_waiting(results, written, shell):
+    """After the commits were read, what is said each second until the file is written, in whatever way it ends."""
+    title = "%s git-cgraph write --progress" % " ".join(shell)
+    for lines, last in (("sleep 2.2", 0), ("sleep 2.2; echo 'refused write 11'; exit 1", 128)):
+        written.clear()
+        written.put(lines)
+        answer = written.write("--progress", shell=shell)
+        told = re.search(r"\nWriting commit-graph: 1 s\r(Writing commit-graph: \d s\r)*Writing commit-graph: \d s, done\.\n", answer.err)
+        right = told and answer.status == last and answer.err.count("Writing") < 6
+        results.check("%s, %s" % (title, lines), None if right else "it is %r" % (answer,))
+    written.put()
 
 
 def check_layers(results, written, shell):

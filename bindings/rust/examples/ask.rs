@@ -4,6 +4,7 @@
 use commitgraph::{Checked, CommitFault, DatesError, Fault, FileError, Graph, GraphError, Kind, LayerFault, ObjectId};
 use commitgraph::{OpenError, ParentError, Position, Probe, ProbeError, VerifyError, VerifyOptions};
 use std::convert::Infallible;
+use std::error::Error;
 use std::process::ExitCode;
 
 /// What a command answers: its lines, and whether its status is 0.
@@ -25,12 +26,14 @@ fn main() -> ExitCode {
             return ExitCode::from(2);
         }
     };
-    let (lines, good) = answer.unwrap_or_else(|error| (not_opened(&error, words[1] == "list"), false));
+    let (lines, good) = answer.unwrap_or_else(|error| {
+        complain(&error);
+        (not_opened(&error, words[1] == "list"), false)
+    });
     print!("{lines}");
     ExitCode::from(u8::from(!good))
 }
 
-/// The commits, a line for each, told one by one and many at a time.
 /// The layer and the base ids of a graph of one file.
 fn layer_lines(graph: &Graph) -> String {
     let layer = graph.layer(0).expect("it is there");
@@ -40,6 +43,7 @@ fn layer_lines(graph: &Graph) -> String {
     bases.fold(first, |lines, id| format!("{lines}base {id}\n"))
 }
 
+/// The commits, a line for each, told one by one and many at a time.
 fn list(graph: &Graph) -> Answer {
     let mut lines = if graph.num_layers() == 1 { layer_lines(graph) } else { String::new() };
     for ((commit, record), told) in graph.iter_commits().zip(graph.iter_records()).zip(graph.iter_parents()) {
@@ -166,13 +170,21 @@ fn ancestor(graph: &Checked, from: &str, to: &str) -> Answer {
 /// The line of a graph that was not opened.
 fn not_opened(error: &OpenError, list: bool) -> String {
     match error {
-        OpenError::Check(fault) => not_right(fault),
+        OpenError::Check(error) => not_right(&error.fault),
         OpenError::Layer { layer, error, .. } => {
             let place = if list { String::new() } else { format!("open 5 layer {layer} ") };
             format!("refused {place}file {}\n", file_number(*error))
         }
-        OpenError::Graph(error) => format!("refused open 6 graph {}\n", graph_number(*error)),
-        error => panic!("{error}"),
+        OpenError::Graph { error, .. } => format!("refused open 6 graph {}\n", graph_number(*error)),
+        _ => String::new(),
+    }
+}
+
+/// Says why no graph was opened, and what the system says of a file that was not read.
+fn complain(error: &OpenError) {
+    match error.source() {
+        Some(source) => eprintln!("ask: {error}: {source}"),
+        None => eprintln!("ask: {error}"),
     }
 }
 

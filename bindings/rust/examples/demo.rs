@@ -1,8 +1,20 @@
 //! `demo PATH ID`: opens and checks the graph at the path, and says how its commits are reached from the one with the id.
 
 use commitgraph::{Checked, ObjectId, Position};
+use std::error::Error;
+use std::process::ExitCode;
 
-fn main() -> Result<(), Box<dyn std::error::Error>> {
+fn main() -> ExitCode {
+    match demo() {
+        Ok(()) => ExitCode::SUCCESS,
+        Err(error) => {
+            eprintln!("demo: {error}");
+            ExitCode::FAILURE
+        }
+    }
+}
+
+fn demo() -> Result<(), Box<dyn Error>> {
     let words: Vec<String> = std::env::args().collect();
     let [_, path, id] = &words[..] else {
         return Err("usage: demo PATH ID".into());

@@ -4,7 +4,7 @@ use crate::error::fault_of;
 use crate::open::{open, Place};
 use crate::room::{collected, positions_of, room_for};
 use crate::verify::{outcome_of, ROOM};
-use crate::{codes, sys, Graph, Limit, OpenError, Outcome, PairError, Position, QueryError, VerifyOptions};
+use crate::{codes, refused, sys, Graph, Limit, OpenError, Outcome, PairError, Position, QueryError, VerifyOptions};
 use std::path::Path;
 
 /// A graph that its check has found right.
@@ -64,7 +64,7 @@ impl Checked {
     ///
     /// # Errors
     ///
-    /// `Check` with the first fault, or `OutOfMemory`. The graph is dropped then.
+    /// `Check` with the first fault, for whose commit the files are read once more; or `OutOfMemory`. The graph is dropped then.
     pub fn of_graph(graph: Graph, options: VerifyOptions) -> Result<Checked, OpenError> {
         Checked::given_back(graph, options, |given, verdict, counts, raw| {
             // SAFETY: `given` is open, and no copy of it is used from here on; `raw` is CG_CLOSED, and the other pointers are
@@ -88,20 +88,20 @@ impl Checked {
 
     /// The graph that a call checks, which is handed one, closes it, and hands it out again where it is right.
     fn given_back(
-        graph: Graph,
+        mut graph: Graph,
         options: VerifyOptions,
         check: impl FnOnce(sys::Graph, *mut sys::Verdict, *mut sys::Count, *mut sys::Graph) -> u32,
     ) -> Result<Checked, OpenError> {
         let mut counts = [sys::Count::default(); ROOM];
         let mut verdict = sys::Verdict::default();
-        let (mut raw, given) = (sys::CLOSED, graph.raw);
+        let (mut raw, given, paths) = (sys::CLOSED, graph.raw, std::mem::take(&mut graph.paths));
         // The call closes it.
         std::mem::forget(graph);
         match check(given, &mut verdict, counts.as_mut_ptr(), &mut raw) {
-            codes::OK => Checked::found_right(Graph::of_raw(raw), options, &verdict, &counts),
+            codes::OK => Checked::found_right(Graph::of_raw(raw, paths), options, &verdict, &counts),
             codes::OUT_OF_MEMORY => Err(OpenError::OutOfMemory),
             codes::STOPPED => Err(OpenError::Stopped { pos: Position(verdict.position) }),
-            _ => Err(OpenError::Check(fault_of(&verdict))),
+            _ => Err(OpenError::Check(refused::of_files(&paths, options, fault_of(&verdict)))),
         }
     }
 

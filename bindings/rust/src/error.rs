@@ -1,6 +1,6 @@
 //! Why a graph is refused. What an error says is what `docs/REFUSALS.md` says of it.
 
-use crate::{codes, sys, FileError, GraphError, Position};
+use crate::{advice, codes, sys, FileError, GraphError, ObjectId, Position};
 use std::collections::TryReserveError;
 use std::fmt;
 use std::path::PathBuf;
@@ -9,11 +9,13 @@ use std::path::PathBuf;
 const NO_SUCH_ENTRY: i32 = 2;
 const NO_FOLDER: i32 = 20;
 
+/// What it says where a read failed.
+const READ_FAILED: i32 = 5;
+
 /// What is said where there is no memory.
 const OUT_OF_MEMORY: &str = "memory ran out";
 
 /// Why no graph was opened.
-#[derive(Debug)]
 #[non_exhaustive]
 pub enum OpenError {
     /// A file could not be read.
@@ -40,9 +42,14 @@ pub enum OpenError {
         error: FileError,
     },
     /// The layers make no graph.
-    Graph(GraphError),
+    Graph {
+        /// The path of the chain file, which is empty for layers whose bytes were given.
+        path: PathBuf,
+        /// Why.
+        error: GraphError,
+    },
     /// The check refuses the graph.
-    Check(Fault),
+    Check(CheckError),
     /// Of an info folder neither the file nor the chain was opened, and neither is missing.
     Neither {
         /// Why the file was not.
@@ -60,6 +67,19 @@ pub enum OpenError {
 }
 
 impl OpenError {
+    /// What to do, with the commands to type at the top of the repository; empty where that is not known.
+    pub fn advice(&self) -> &'static str {
+        match self {
+            OpenError::Io { error, .. } if error.raw_os_error() == Some(READ_FAILED) => advice::READ_FAILED,
+            OpenError::Io { .. } => advice::NOT_OPENED,
+            OpenError::Graph { error: GraphError::TooManyCommits, .. } => advice::TOO_MANY_COMMITS,
+            OpenError::ChainLine { .. } | OpenError::Layer { .. } | OpenError::Graph { .. } | OpenError::Neither { .. } => advice::ANEW,
+            OpenError::Check(error) => error.advice(),
+            OpenError::Stopped { .. } => "",
+            OpenError::OutOfMemory => advice::MEMORY,
+        }
+    }
+
     /// Whether an info folder's chain is not tried after this error of its file.
     pub(crate) fn is_settled(&self) -> bool {
         matches!(self, OpenError::Check(_) | OpenError::OutOfMemory)
@@ -82,34 +102,60 @@ impl OpenError {
     }
 }
 
+/// The same words, with what the system says, since a program that ends with an error shows it so.
+impl fmt::Debug for OpenError {
+    fn fmt(&self, f: &mut fmt::Formatter<'_>) -> fmt::Result {
+        match self {
+            OpenError::Io { error, .. } => write!(f, "{self}: {error}"),
+            _ => write!(f, "{self}"),
+        }
+    }
+}
+
+/// What happened, with the file and the commit of which it speaks, and what to do. What the system says of a file that was not read is
+/// the source.
 impl fmt::Display for OpenError {
     fn fmt(&self, f: &mut fmt::Formatter<'_>) -> fmt::Result {
+        self.write_happened(f)?;
+        match (self, self.advice()) {
+            (OpenError::Check(_), _) | (_, "") => Ok(()),
+            (OpenError::Io { .. }, advice) => write!(f, " (what to do: {advice})"),
+            (_, advice) => write!(f, "; what to do: {advice}"),
+        }
+    }
+}
+
+impl OpenError {
+    /// What happened, alone; but of a check all.
+    fn write_happened(&self, f: &mut fmt::Formatter<'_>) -> fmt::Result {
         match self {
             OpenError::Io { path, .. } => write!(f, "cannot read {}", path.display()),
             OpenError::ChainLine { path, line } => {
-                write!(f, "{}: line {line} of the chain file is not UTF-8", path.display())
+                write!(f, "{}: line {line} of the chain file, counted from 0, is not UTF-8", path.display())
             }
             OpenError::Layer { layer, path, error } if path.as_os_str().is_empty() => write!(f, "layer {layer}: {error}"),
             OpenError::Layer { path, error, .. } => write!(f, "{}: {error}", path.display()),
-            OpenError::Graph(error) => error.fmt(f),
-            OpenError::Check(fault) => fault.fmt(f),
+            OpenError::Graph { path, error } if path.as_os_str().is_empty() => write!(f, "{error}"),
+            OpenError::Graph { path, error } => write!(f, "{}: {error}", path.display()),
+            OpenError::Check(error) => write!(f, "{error}"),
             OpenError::Neither { file, chain } => {
                 write!(f, "neither the file nor the chain was opened: ")?;
-                write_with_source(f, file)?;
+                file.write_with_source(f)?;
                 write!(f, "; ")?;
-                write_with_source(f, chain)
+                chain.write_with_source(f)
             }
             OpenError::Stopped { pos } => write!(f, "a limit or a flag stopped the check before the commit at position {pos}"),
             OpenError::OutOfMemory => f.write_str(OUT_OF_MEMORY),
         }
     }
-}
 
-/// An error that has no one above it to ask for its source.
-fn write_with_source(f: &mut fmt::Formatter<'_>, error: &OpenError) -> fmt::Result {
-    match error {
-        OpenError::Io { error: source, .. } => write!(f, "{error}: {source}"),
-        _ => write!(f, "{error}"),
+    /// What happened, where no one above asks for the source.
+    fn write_with_source(&self, f: &mut fmt::Formatter<'_>) -> fmt::Result {
+        self.write_happened(f)?;
+        match self {
+            OpenError::Io { error, .. } => write!(f, ": {error}"),
+            _ => Ok(()),
+        }
     }
 }
 
@@ -121,6 +167,45 @@ impl std::error::Error for OpenError {
         }
     }
 }
+
+/// Why a check refuses a graph: its first fault, with the file and the commit of which that speaks.
+#[derive(Clone, Debug, PartialEq, Eq)]
+#[non_exhaustive]
+pub struct CheckError {
+    /// The fault.
+    pub fault: Fault,
+    /// The path of the layer's file, or of the chain file where there are too many layers. It is empty where it is not known.
+    pub path: PathBuf,
+    /// The id of the commit, if the fault is one of a commit and its id could be read.
+    pub id: Option<ObjectId>,
+}
+
+impl CheckError {
+    /// What to do, with the commands to type at the top of the repository.
+    pub fn advice(&self) -> &'static str {
+        match self.fault {
+            Fault::BaseCount { .. } => advice::BASE_COUNT,
+            Fault::Layer { fault: LayerFault::Checksum, .. } => advice::CHECKSUM,
+            Fault::Layer { fault: LayerFault::FileName, .. } => advice::FILE_NAME,
+            _ => advice::ANEW,
+        }
+    }
+}
+
+impl fmt::Display for CheckError {
+    fn fmt(&self, f: &mut fmt::Formatter<'_>) -> fmt::Result {
+        if !self.path.as_os_str().is_empty() {
+            write!(f, "{}: ", self.path.display())?;
+        }
+        self.fault.fmt(f)?;
+        if let Some(id) = self.id {
+            write!(f, "; the commit is {id}")?;
+        }
+        write!(f, "; what to do: {}", self.advice())
+    }
+}
+
+impl std::error::Error for CheckError {}
 
 /// What the check of a graph finds wrong: its first fault.
 #[derive(Clone, Copy, Debug, PartialEq, Eq)]
@@ -182,6 +267,28 @@ pub enum Fault {
         /// The earlier position.
         earlier: Position,
     },
+}
+
+impl Fault {
+    /// The layer, if the fault is one of a layer as a whole.
+    pub(crate) fn layer(&self) -> Option<usize> {
+        match *self {
+            Fault::BaseCount { layer } | Fault::BaseId { layer, .. } | Fault::Layer { layer, .. } => Some(layer),
+            _ => None,
+        }
+    }
+
+    /// The position of the commit, if the fault is one of a commit.
+    pub(crate) fn pos(&self) -> Option<Position> {
+        match *self {
+            Fault::TooManyFiles | Fault::BaseCount { .. } | Fault::BaseId { .. } | Fault::Layer { .. } => None,
+            Fault::Commit { pos, .. }
+            | Fault::Parent { pos, .. }
+            | Fault::ParentOutOfRange { pos, .. }
+            | Fault::Generation { pos, .. }
+            | Fault::DuplicateId { pos, .. } => Some(pos),
+        }
+    }
 }
 
 impl fmt::Display for Fault {

@@ -54,6 +54,11 @@ impl<'g> Layer<'g> {
         self.told.num_commits
     }
 
+    /// Whether a position is one of its commits.
+    pub(crate) fn has(&self, pos: Position) -> bool {
+        pos >= self.first() && pos.0 - self.told.first < self.told.num_commits
+    }
+
     /// The checksum that its file ends with. Whether it is that of the bytes, a check says.
     pub fn checksum(&self) -> ObjectId {
         self.graph.id_from(|out, len| {

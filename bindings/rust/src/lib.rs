@@ -13,6 +13,7 @@
 
 #![deny(missing_docs)]
 
+mod advice;
 mod blocks;
 mod checked;
 mod chunks;
@@ -26,6 +27,7 @@ mod layer;
 mod limit;
 mod many;
 mod open;
+mod refused;
 mod room;
 mod sys;
 mod verify;
@@ -38,7 +40,7 @@ pub use commit::{Commit, Parents};
 use commits::Commits;
 use error::fault_of;
 pub use error::{CommitFault, DatesError, Fault, LayerFault, OpenError, PairError, ParentError, ProbeError, QueryError};
-pub use error::{Mismatch, VerifyError};
+pub use error::{CheckError, Mismatch, VerifyError};
 pub use file_error::{FileError, GraphError};
 pub use id::{IdError, ObjectId};
 pub use layer::{Kind, Layer, LayerOutcome};
@@ -48,7 +50,7 @@ pub use open::{chain_lines, LayerFile, Place};
 use room::collected;
 use std::fmt;
 use std::iter::FusedIterator;
-use std::path::Path;
+use std::path::{Path, PathBuf};
 pub use verify::{Outcome, VerifyOptions};
 pub use writer::{WriteError, Writer};
 
@@ -71,6 +73,8 @@ pub struct Graph {
     raw: sys::Graph,
     id_len: usize,
     num_commits: u32,
+    /// The paths of the files of its layers, which may be empty.
+    paths: Vec<PathBuf>,
 }
 
 // SAFETY: the calls that take `&Graph` only read what it owns, and may run at a time (`commitgraph.h`, "Threads"). `drop`
@@ -128,10 +132,10 @@ impl Graph {
         .map(|(graph, _)| graph)
     }
 
-    /// The graph that a call has opened.
-    pub(crate) fn of_raw(raw: sys::Graph) -> Graph {
+    /// The graph that a call has opened, of files at these paths.
+    pub(crate) fn of_raw(raw: sys::Graph, paths: Vec<PathBuf>) -> Graph {
         // SAFETY: `raw` is open.
-        unsafe { Graph { id_len: sys::cg_id_len(raw), num_commits: sys::cg_num_commits(raw), raw } }
+        unsafe { Graph { id_len: sys::cg_id_len(raw), num_commits: sys::cg_num_commits(raw), raw, paths } }
     }
 
     /// The graph that a call opens, and the verdict that it may write.
@@ -151,11 +155,12 @@ impl Graph {
         let error = open(&files, &mut raw, &mut verdict);
         let layer = error.layer as usize;
         match error.code {
-            codes::OK => Ok((Graph::of_raw(raw), verdict)),
+            codes::OK => Ok((Graph::of_raw(raw, paths_of(layers)), verdict)),
             codes::OUT_OF_MEMORY => Err(OpenError::OutOfMemory),
-            code => Err(match FileError::of(code) {
-                Some(error) => OpenError::Layer { layer, path: layers[layer].1.into(), error },
-                None => GraphError::of(code, layer).map_or_else(|| OpenError::Check(fault_of(&verdict)), OpenError::Graph),
+            code => Err(match (FileError::of(code), GraphError::of(code, layer)) {
+                (Some(error), _) => OpenError::Layer { layer, path: layers[layer].1.into(), error },
+                (_, Some(error)) => OpenError::Graph { path: PathBuf::new(), error },
+                _ => OpenError::Check(refused::of_layers(layers, fault_of(&verdict))),
             }),
         }
     }
@@ -204,6 +209,11 @@ impl Graph {
     pub fn iter_ids(&self) -> impl ExactSizeIterator<Item = ObjectId> + FusedIterator + '_ {
         (0..self.num_commits()).map(|pos| Commit::new(self, Position(pos), None).id())
     }
+}
+
+/// The paths of the files of layers.
+fn paths_of(layers: &[(&[u8], &str)]) -> Vec<PathBuf> {
+    layers.iter().map(|(_, path)| path.into()).collect()
 }
 
 /// Opens the graph at a path.

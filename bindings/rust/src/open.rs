@@ -49,28 +49,27 @@ struct Known {
 
 /// Opens what stands at a path. Where it is refused, the refusal of an info folder's file is not hidden by that of its chain.
 pub(crate) fn open(path: &Path, place: Place) -> Result<Graph, OpenError> {
-    opened(path, place).map(|(graph, _)| graph)
+    with_files(path, place).map(|(graph, _)| graph)
 }
 
 /// The same, with the files of the layers.
 pub(crate) fn with_files(path: &Path, place: Place) -> Result<(Graph, Vec<LayerFile>), OpenError> {
-    let (graph, known) = opened(path, place)?;
-    let root = path.to_str().map_or(path, |_| Path::new(""));
-    let files = files_of(known, path.to_str().unwrap_or("").as_bytes()).map_err(|_| OpenError::OutOfMemory)?;
-    let whole = |(path, bytes): ReadFile| LayerFile { path: whole(root, &path), bytes };
-    Ok((graph, collected(files.into_iter().map(whole)).map_err(|_| OpenError::OutOfMemory)?))
+    open_alone(path, place).map_err(|error| {
+        let may_be_info = !error.is_settled() && matches!(place, Place::Anything | Place::InfoFolder);
+        match may_be_info.then(|| open_alone(&path.join("commit-graph"), Place::File)) {
+            Some(Err(file)) => OpenError::of_both(file, error),
+            _ => error,
+        }
+    })
 }
 
-/// The path of a file, and its bytes.
-type ReadFile = (Vec<u8>, Vec<u8>);
-
-/// Of what is known where a graph was opened, the files of its layers, each with its path: those that the lines of a chain file
-/// name, which stand behind it, since it is asked for only where the chain is opened; else the one file.
-fn files_of(known: Vec<Known>, asked: &[u8]) -> Result<Vec<ReadFile>, TryReserveError> {
+/// Of what is known where a graph was opened, the files of its layers: those that the lines of a chain file name, which stand behind
+/// it, since it is asked for only where the chain is opened; else the one file.
+fn files_of(known: Vec<Known>, root: &Path, asked: &[u8]) -> Result<Vec<LayerFile>, TryReserveError> {
     let chain = known.iter().position(|it| it.path != asked && it.is_read() && it.path.ends_with(CHAIN_FILE));
     let is_file = |it: &Known| it.path == asked || it.path.ends_with(FILE);
     let read = |it: Known| match it.standing {
-        Standing::File(bytes) => Some((it.path, bytes)),
+        Standing::File(bytes) => Some(LayerFile { path: whole(root, &it.path), bytes }),
         _ => None,
     };
     let mut files = Vec::new();
@@ -86,20 +85,9 @@ fn files_of(known: Vec<Known>, asked: &[u8]) -> Result<Vec<ReadFile>, TryReserve
 const FILE: &[u8] = b"commit-graph";
 const CHAIN_FILE: &[u8] = b"commit-graph-chain";
 
-/// What is opened, and what was read for it.
-fn opened(path: &Path, place: Place) -> Result<(Graph, Vec<Known>), OpenError> {
-    open_alone(path, place).map_err(|error| {
-        let may_be_info = !error.is_settled() && matches!(place, Place::Anything | Place::InfoFolder);
-        match may_be_info.then(|| open_alone(&path.join("commit-graph"), Place::File)) {
-            Some(Err(file)) => OpenError::of_both(file, error),
-            _ => error,
-        }
-    })
-}
-
 /// Opens what stands at a path, by as many calls as there are paths that the library asks for. A path that is no text is the root
 /// of those.
-fn open_alone(path: &Path, place: Place) -> Result<(Graph, Vec<Known>), OpenError> {
+fn open_alone(path: &Path, place: Place) -> Result<(Graph, Vec<LayerFile>), OpenError> {
     let (root, asked) = path.to_str().map_or((path, ""), |text| (Path::new(""), text));
     let mut known: Vec<Known> = Vec::new();
     loop {
@@ -113,7 +101,12 @@ fn open_alone(path: &Path, place: Place) -> Result<(Graph, Vec<Known>), OpenErro
         };
         let file = &file[..ROOM.min(told.length as usize)];
         match told.code {
-            codes::OK => return Ok((Graph::of_raw(raw), known)),
+            codes::OK => {
+                let mut graph = Graph::of_raw(raw, Vec::new());
+                let files = files_of(known, root, asked.as_bytes()).map_err(|_| OpenError::OutOfMemory)?;
+                graph.paths = collected(files.iter().map(|file| file.path.clone())).map_err(|_| OpenError::OutOfMemory)?;
+                return Ok((graph, files));
+            }
             codes::PATH_WANTED if told.length as usize <= ROOM => learn(&mut known, root, file).map_err(|_| OpenError::OutOfMemory)?,
             _ => return Err(refusal(&told, path, root, file, known)),
         }
@@ -211,7 +204,7 @@ fn refusal(told: &sys::PathError, path: &Path, root: &Path, file: &[u8], known: 
         codes::OPEN_CHAIN_NOT_TEXT => OpenError::ChainLine { path: whole.with_file_name("commit-graph-chain"), line: layer },
         code => match (FileError::of(code), GraphError::of(code, layer)) {
             (Some(error), _) => OpenError::Layer { layer, path: whole, error },
-            (_, Some(error)) => OpenError::Graph(error),
+            (_, Some(error)) => OpenError::Graph { path: whole.with_file_name("commit-graph-chain"), error },
             _ => {
                 let unread = known.into_iter().find(|it| it.path == file);
                 OpenError::Io { error: unread.and_then(said).unwrap_or_else(nothing), path: whole }

@@ -2,7 +2,7 @@
 
 use crate::error::fault_of;
 use crate::room::room_for;
-use crate::{codes, sys, Commit, Graph, Position, VerifyError};
+use crate::{codes, sys, Commit, Fault, Graph, Position, VerifyError};
 use std::collections::{BTreeMap, TryReserveError};
 
 /// For so many different numbers of parents there is room at first.
@@ -65,6 +65,14 @@ impl Graph {
     /// The statistics of a graph that is right.
     pub(crate) fn outcome(&self, options: VerifyOptions) -> Result<Outcome, VerifyError<std::convert::Infallible>> {
         self.verify_integrity_with(options, |_| Ok(()))
+    }
+
+    /// Whether this is the first fault that a check finds.
+    pub(crate) fn has_fault(&self, options: VerifyOptions, fault: Fault) -> bool {
+        match self.verdict(options) {
+            Ok((verdict, _)) => !matches!(verdict.code, codes::OK | codes::OUT_OF_MEMORY) && fault_of(&verdict) == fault,
+            Err(_) => false,
+        }
     }
 
     /// The verdict, and its counts; or that there is no memory for them.

@@ -2,7 +2,7 @@
 
 mod made;
 
-use commitgraph::{Checked, Commit, Fault, FileError, Graph, GraphError, IdError, Kind, ObjectId, OpenError, PairError, Position, ProbeError};
+use commitgraph::{CheckError, Checked, Commit, Fault, FileError, Graph, GraphError, IdError, Kind, ObjectId, OpenError, PairError, Position, ProbeError};
 use commitgraph::{DatesError, Flag, LayerFault, Limit, Mismatch, Place, QueryError, VerifyError, VerifyOptions};
 use made::{git, long_lists, made};
 use std::error::Error;
@@ -146,15 +146,19 @@ fn each_date_follows_from_the_time_and_the_dates_of_the_parents() {
 fn what_is_refused_is_told() {
     let bytes = fs::read(&made().file).unwrap();
     let refused = |layers: &[(&[u8], &str)]| Graph::of_bytes(layers).unwrap_err();
-    assert!(matches!(refused(&[]), OpenError::Graph(GraphError::NoFiles)));
+    assert!(matches!(refused(&[]), OpenError::Graph { error: GraphError::NoFiles, .. }));
     let short = refused(&[(&bytes, ""), (b"CGPH", ""), (b"", "")]);
     assert!(matches!(short, OpenError::Layer { layer: 1, error: FileError::TooShort, .. }));
-    assert_eq!(short.to_string(), "layer 1: the file has fewer than 1100 bytes: often it is truncated");
+    let says = |error: &OpenError, happened: &str| {
+        assert_eq!(error.to_string(), format!("{happened}; what to do: {}", error.advice()));
+        assert!(error.advice().ends_with("`git commit-graph write --reachable`"));
+    };
+    says(&short, "layer 1: the file has fewer than 1100 bytes: often it is truncated");
     let named = refused(&[(b"CGPH", "a/graph-b.graph")]);
-    assert_eq!(named.to_string(), "a/graph-b.graph: the file has fewer than 1100 bytes: often it is truncated");
-    assert_eq!(refused(&[]).to_string(), "the chain file names no layer");
+    says(&named, "a/graph-b.graph: the file has fewer than 1100 bytes: often it is truncated");
+    says(&refused(&[]), "the chain file names no layer");
     let missing = Graph::from_file("no/such/file").unwrap_err();
-    assert_eq!(missing.to_string(), "cannot read no/such/file");
+    assert!(missing.to_string().starts_with("cannot read no/such/file (what to do: `git commit-graph write --reachable` makes"));
     assert!(missing.source().is_some_and(|source| source.is::<std::io::Error>()) && refused(&[]).source().is_none());
 }
 
@@ -166,7 +170,52 @@ fn an_open_graph_is_checked_as_at_its_path() {
     assert_eq!((checked.outcome(), checked.options()), (wanted.outcome(), options));
     assert_eq!(Checked::try_from(Graph::at(&made().file).unwrap()).unwrap().options(), VerifyOptions::default());
     let refused = Checked::try_from(Graph::at(&made().faulty).unwrap()).unwrap_err();
-    assert!(matches!(refused, OpenError::Check(Fault::Generation { .. })), "{refused}");
+    assert!(matches!(refused, OpenError::Check(CheckError { fault: Fault::Generation { .. }, .. })), "{refused}");
+}
+
+#[test]
+fn a_fault_names_the_file_and_the_commit() {
+    let (options, faulty) = (VerifyOptions::default(), &made().faulty);
+    let graph = Graph::at(faulty).unwrap();
+    let Err(VerifyError::Fault(fault @ Fault::Generation { pos, .. })) = called(&graph, None).1 else {
+        panic!("the file has a fault");
+    };
+    let wanted = graph.check_error(fault);
+    assert_eq!((&wanted.path, wanted.id), (faulty, Some(graph.id_at(pos))));
+    let bytes = fs::read(faulty).unwrap();
+    let by_bytes = Checked::of_bytes(&[(&bytes, faulty.to_str().unwrap())]).unwrap_err();
+    for error in [Checked::at(faulty).unwrap_err(), Checked::of_graph(graph, options).unwrap_err(), by_bytes] {
+        assert!(matches!(&error, OpenError::Check(told) if *told == wanted), "{error}");
+        let text = error.to_string();
+        assert!(text.starts_with(&format!("{}: the commit at position {pos}: its generation number ", faulty.display())), "{text}");
+        assert!(text.ends_with(&format!("; the commit is {}; what to do: {}", wanted.id.unwrap(), error.advice())), "{text}");
+        assert_eq!(format!("{error:?}"), text);
+    }
+    let folder = folder("changed");
+    let file = folder.join("commit-graph");
+    fs::write(&file, [&bytes[..bytes.len() - 1], &[!bytes[bytes.len() - 1]]].concat()).unwrap();
+    let error = Checked::at(&folder).unwrap_err();
+    assert!(matches!(&error, OpenError::Check(told) if told.path == file && told.id.is_none()), "{error}");
+    assert!(error.advice().starts_with("check the disk, and "));
+}
+
+#[test]
+fn a_fault_in_a_chain_names_the_layer() {
+    let folder = folder("chain").join("commit-graphs");
+    for entry in fs::read_dir(&made().chain).unwrap() {
+        let path = entry.unwrap().path();
+        fs::write(folder.join(path.file_name().unwrap()), fs::read(&path).unwrap()).unwrap();
+    }
+    let chain = folder.join("commit-graph-chain");
+    let lines = fs::read_to_string(&chain).unwrap();
+    let names: Vec<_> = lines.lines().collect();
+    let second = folder.join(format!("graph-{}.graph", names[1]));
+    fs::copy(folder.join(format!("graph-{}.graph", names[2])), &second).unwrap();
+    let error = Checked::from_commit_graphs_dir(&folder, VerifyOptions::default()).unwrap_err();
+    assert!(matches!(&error, OpenError::Check(told) if told.path == second), "{error}");
+    fs::write(&chain, "").unwrap();
+    let error = Graph::from_commit_graphs_dir(&folder).unwrap_err();
+    assert!(error.to_string().starts_with(&format!("{}: the chain file names no layer; ", chain.display())), "{error}");
 }
 
 #[test]
@@ -280,9 +329,12 @@ fn neither_refusal_of_an_info_folder_hides_the_other() {
     let OpenError::Neither { file, chain, .. } = &error else {
         panic!("{error}");
     };
-    assert!(error.to_string().contains(&file.to_string()) && error.to_string().contains(&chain.to_string()));
+    for part in [file, chain] {
+        assert!(error.to_string().contains(part.to_string().split("; what to do: ").next().unwrap()), "{error}");
+    }
+    assert_eq!(error.to_string().matches("what to do: ").count(), 1);
     fs::remove_file(folder.join("commit-graph")).unwrap();
-    assert!(matches!(opened(), OpenError::Graph(GraphError::NoFiles)));
+    assert!(matches!(opened(), OpenError::Graph { error: GraphError::NoFiles, .. }));
 }
 
 #[test]

@@ -27,6 +27,7 @@ ODD_TAG = "odd';$(id)\"&|<>`\u00e9!#%"
 SHORTEST = 4
 """The fewest digits by which Git looks for an id."""
 
+EXAMPLE = os.path.join(TOP, "examples", "commit-graph")
 MANY = 900
 """So many commits that two of them agree in so few digits."""
 
@@ -98,19 +99,19 @@ def check_all(programs, results, folder, new):
 
 
 def check_session(installed, results, folder):
-    """The session of README.md, word by word, in a repository of the commits of examples/README.md."""
+    """The session of README.md, word by word, in the repository that the lines of examples/README.md make; the folder is named as
+    they name it.
+    """
     session = re.search(r"## A session\n(.*?)\n## ", read("README.md"), re.DOTALL).group(1)
     lines = [line[4:] for line in session.split("\n") if line.startswith("    ")]
     commands = [(at, line[2:]) for at, line in enumerate(lines) if line.startswith("$ ")]
     ends = [at for at, _ in commands[1:]] + [len(lines)]
-    recipe = re.findall(r"^    (.*)$", read("examples", "README.md"), re.MULTILINE)[:-1]
-    branches = ["git update-ref refs/heads/topic $second", "git symbolic-ref HEAD refs/heads/main"]
-    os.mkdir(folder)
-    shutil.copytree(os.path.join(TOP, "examples"), os.path.join(folder, "examples"))
-    made = run(["sh", "-e", "-c", "\n".join(["git init -q .", *recipe, *branches])], installed.variables, cwd=folder)
+    recipe = re.findall(r"^    (.*)$", read("examples", "README.md"), re.MULTILINE)
+    lines_of_recipe = "\n".join([*recipe, "git symbolic-ref HEAD refs/heads/main"])
+    made = run(["sh", "-e", "-c", lines_of_recipe], installed.variables, cwd=os.path.dirname(folder))
     results.check("the commits of the examples", None if made.status == 0 else "it is %r" % (made,))
     for (at, command), end in zip(commands, ends):
-        answer = run(["sh", "-c", command + " 2>&1"], installed.variables, cwd=folder)
+        answer = run(["sh", "-c", command.replace("path/to/this/clone", TOP) + " 2>&1"], installed.variables, cwd=folder)
         expected = "".join(line + "\n" for line in lines[at + 1 : end]).replace("/repository", os.path.realpath(folder))
         complaint = None if answer.out == expected else "it is %r, expected %r" % (answer, expected)
         results.check("README.md: %s" % command, complaint)
@@ -123,7 +124,7 @@ def check_examples(installed, results, folder):
     examples = re.search(r"## Examples\n(.*?)\n## ", read("docs", "MANUAL.md"), re.DOTALL).group(1)
     blocks = re.findall(r"^    \$ (.*)\n((?:    (?!\$).*\n)*)", examples, re.MULTILINE)
     graph = os.path.join(os.path.realpath(folder), ".git/objects/info/commit-graph")
-    shutil.copy(os.path.join(folder, "examples", "commit-graph"), graph)
+    shutil.copy(EXAMPLE, graph)
     for at, (command, out) in enumerate(blocks):
         if command == "git cgraph show":
             person = ("-c", "user.name=A", "-c", "user.email=a@example.com")
@@ -131,7 +132,7 @@ def check_examples(installed, results, folder):
         if at == len(blocks) - 1:
             # What `write` has put there may only be read.
             os.remove(graph)
-            shutil.copy(os.path.join(folder, "examples", "damaged"), graph)
+            shutil.copy(os.path.join(TOP, "examples", "damaged"), graph)
         answer = run(["sh", "-c", command + " 2>&1"], installed.variables, cwd=folder)
         expected = re.sub("(?m)^    ", "", out).replace("/repository", os.path.realpath(folder))
         right = re.fullmatch(re.escape(expected).replace(r"\.\.\.", "[0-9a-f]*"), answer.out)
@@ -416,7 +417,8 @@ def check_refusal(installed, results, repository, case):
     commit = ["the commit at position %s is %s" % at for at in [position_in(line, layers)] if at]
     words = [os.path.join(installed.prefix, "bin", "graphtool"), "verify", repository.graph_path() if is_file else info]
     answer = run(words, installed.variables)
-    err = refusals.written("graphtool", [*commit, *refusals.sentences(rows, line.strip(), "verify")])
+    known = refusals.Known(file_in(line, layers, repository.graph_path() if is_file else os.path.join(info, trees.GRAPHS), is_file))
+    err = refusals.written("graphtool", [*commit, *refusals.sentences(rows, line.strip(), "verify", known)])
     complaint = None if answer == (1, line, err) else "it is %r, expected %r" % (answer, (1, line, err))
     results.check("graphtool verify, %s, in sentences" % name, complaint)
     there = any(os.path.lexists(path) for path in (repository.graph_path(), os.path.join(info, trees.CHAIN)))
@@ -441,6 +443,22 @@ def check_cure(installed, results, repository, case):
     verdicts = installed.ask(way, "verify").status, installed.git(way, "commit-graph", "verify").status
     right = cure and cured.status == 0 and verdicts == (0, 0)
     results.check("the cure of %s" % name, None if right else "%r gives %r, and then %r" % (cure, cured, verdicts))
+
+
+def file_in(line, layers, path, is_file):
+    """The sentence on the file of which a line speaks, of a file or of a folder with a chain at this path, or none."""
+    named = re.match(r"refused (?:open 5|verify \d+|dates \d+|filters \d+) (layer|position) (\d+)", line)
+    chain = os.path.join(path, os.path.basename(trees.CHAIN))
+    if re.match("refused open [46] ", line) and not is_file:
+        return "the chain file is '%s'" % chain
+    if not named or is_file:
+        return "the file is '%s'" % path if named else ""
+    number = int(named.group(2))
+    if named.group(1) == "position":
+        counts = itertools.accumulate(int(reading.listed(layer).split("\n")[0].split()[-1]) for layer in layers)
+        number = next(at for at, count in enumerate(counts) if number < count)
+    name = read_bytes(chain).splitlines()[number].decode()
+    return "layer %d is '%s'" % (number, os.path.join(path, "graph-%s.graph" % name))
 
 
 def position_in(line, layers):

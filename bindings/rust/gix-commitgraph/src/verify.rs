@@ -31,7 +31,7 @@ impl Graph {
                 parent_counts: found.parent_counts,
             }),
             Err(VerifyError::Processor { error, .. }) => Err(Error::new(error)),
-            Err(VerifyError::Fault(fault)) => Err(Error::new(fault)),
+            Err(VerifyError::Fault(fault)) => Err(Error::new(self.layers.graph.check_error(fault))),
             Err(error) => Err(Error::new(error.to_string())),
         }
     }

@@ -42,7 +42,7 @@ impl File {
             Err(_) => 0,
         };
         self.iter_commits().take(called as usize).try_for_each(|commit| processor(&commit))?;
-        let told = found?;
+        let told = found.map_err(|error| self.refusal(error))?;
         Ok(Outcome {
             max_generation: told.max_generation,
             min_generation: told.min_generation,
@@ -56,8 +56,16 @@ impl File {
     /// too, which takes some time more.
     pub fn verify_checksum(&self) -> Result<ObjectId, Error> {
         match self.check() {
-            Err(error @ VerifyError::Fault(Fault::Layer { fault: LayerFault::Checksum, .. })) => Err(error.into()),
+            Err(error @ VerifyError::Fault(Fault::Layer { fault: LayerFault::Checksum, .. })) => Err(self.refusal(error)),
             _ => Ok(self.checksum().to_owned()),
+        }
+    }
+
+    /// The error of a check, which names the file, and of a commit the id.
+    fn refusal(&self, error: VerifyError<Infallible>) -> Error {
+        match error {
+            VerifyError::Fault(fault) => Error::new(self.layers.graph.check_error(fault)),
+            error => error.into(),
         }
     }
 
