@@ -1,5 +1,5 @@
 -- what is told of a layer that was to be written
-use Rattle.std.specs.Prelude.{◌≡◌, ◌⊎◌, ℕ, List, [], Bool, Option}
+use Rattle.std.specs.Prelude.{◌≡◌, ℕ, List, [], Bool, Option}
 use Rattle.std.specs.Option.{option_map_or}
 use Rattle.graph_format.specs.Layer.{Layer}
 use Rattle.graph_chunks.specs.declared.dates.DatesError.{DatesError}
@@ -9,7 +9,7 @@ use Rattle.graph_writer.specs.declared.commit.NewCommit.{NewCommit}
 use Rattle.graph_writer.specs.declared.commit.WriteError.{WriteError}
 use Rattle.graph_writer.specs.declared.commit.WriteError.TheVariants as error
 use Rattle.c_opening.specs.Codes.{out_of_memory}
-use Rattle.c_writing.specs.HandedIn.{AreHandedIn, HaveIds}
+use Rattle.c_writing.specs.HandedIn.{AreHandedIn}
 use Rattle.c_writing.specs.ToldDates.{told_date_fault}
 use Rattle.c_writing.specs.declared.new_commits.CgNewCommit.{CgNewCommit}
 use Rattle.c_writing.specs.declared.write.CgWriteError.{CgWriteError}
@@ -54,16 +54,11 @@ pub record IsFileFrom (layers : List Layer) (handed : List CgNewCommit) (bytes :
   pub accepted : AreAccepted layers commits
   pub written : IsWritten layers commits bytes
 
--- The first refusal of the commits is told.
+-- The first refusal of the commits is told; or that memory ran out, which comes only where there are commits and each is right
+-- by itself.
 pub record RefusesCommits (layers : List Layer) (handed : List CgNewCommit) (told : CgWriteError) : Type 0 where
   pub commits : List NewCommit
   pub said : AreHandedIn handed commits
   pub error : WriteError
   pub may : MayRefuseWriting layers commits error
   pub told_as : told ≡ told_write error
-
--- The first refusal of the commits is told; or memory ran out, where the bytes of each are ids.
-abbrev pub MayRefuseHanded : List Layer → List CgNewCommit → CgWriteError → Type 0
-MayRefuseHanded layers handed told =
-    RefusesCommits layers handed told
-    ⊎ (HaveIds handed × (told ≡ told_write error.OutOfMemory))

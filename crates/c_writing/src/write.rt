@@ -7,7 +7,7 @@ ghost use Rattle.c_opening.specs.Answers.{written};
 ghost use Rattle.c_opening.specs.Codes.{no_ids, not_checked};
 ghost use Rattle.c_writing.specs.HandedIn.{HaveIds, IsFirstWithoutIds};
 ghost use Rattle.c_writing.specs.SaidCommits.{HasFewParents};
-ghost use Rattle.c_writing.specs.ToldWrite.{IsFileFrom, MayRefuseHanded, open_layers};
+ghost use Rattle.c_writing.specs.ToldWrite.{IsFileFrom, RefusesCommits, open_layers};
 ghost use Rattle.c_writing.specs.ToldWrite.{told_dates_below, told_write, write_code};
 
 use crate::dates;
@@ -56,7 +56,7 @@ pub fn cg_write(
     ensures ids { result.code ≡ no_ids → IsFirstWithoutIds commits.now result.commit
         × (result ≡ write_code no_ids 0 result.commit 0) }
     ensures refused { result.code ≢ 0 → result.code ≢ not_checked → result.code ≢ no_ids
-        → MayRefuseHanded (open_layers graph.address.held) commits.now result }
+        → RefusesCommits (open_layers graph.address.held) commits.now result }
 {
     let Some(opened) = graph.opened() else {
         return write_on(alloc, None, commits, out);
@@ -82,7 +82,7 @@ fn write_on(
     ensures ids { result.code ≡ no_ids → IsFirstWithoutIds commits.now result.commit
         × (result ≡ write_code no_ids 0 result.commit 0) }
     ensures refused { result.code ≢ 0 → result.code ≢ no_ids
-        → MayRefuseHanded (layers_of_below below.entry) commits.now result }
+        → RefusesCommits (layers_of_below below.entry) commits.now result }
 {
     if let Some(first) = first_without_ids(commits) {
         return at(NO_IDS, first, 0);
@@ -96,7 +96,7 @@ fn write_on(
     }
 }
 
-/// The bytes of the file, in a block of their own.
+/// The bytes of the file, in an allocation of their own.
 fn new_file(
     alloc: Global,
     below: Option<&Checked<'_>>,
@@ -106,7 +106,7 @@ fn new_file(
     requires few { All HasFewParents handed.now }
     ensures file { IfOk result (λ bytes.
         IsFileFrom (layers_of_below below.entry) handed.now bytes.value) }
-    ensures refused { IfErr result (MayRefuseHanded (layers_of_below below.entry) handed.now) }
+    ensures refused { IfErr result (RefusesCommits (layers_of_below below.entry) handed.now) }
     ensures code { IfErr result (λ e. e.code ≢ 0) }
     ensures other { IfErr result (λ e. (e.code ≢ not_checked) × (e.code ≢ no_ids)) }
 {
@@ -116,7 +116,7 @@ fn new_file(
     }
 }
 
-/// Bytes in a block of their own, if there is memory for one.
+/// Bytes in an allocation of their own, if there is memory for one.
 fn boxed(alloc: Global, bytes: Vec<u8>) -> Result<Box<Kept>, CgWriteError>
     ensures same { IfOk result (λ kept. kept.value ≡ bytes.items) }
     ensures refused { IfErr result (λ e. e ≡ told_write WriteError.OutOfMemory) }
