@@ -1,7 +1,7 @@
 //! Commits that C hands in for a new layer.
 
-ghost use Rattle.std.specs.Prelude.{◌≡◌, ◌+◌, ◌*◌, ◌/◌, ◌<◌, All, IfNone, IsTrue, MatchOption};
-ghost use Rattle.std.specs.Prelude.{length, slice_range};
+ghost use Rattle.std.specs.Prelude.{◌≡◌, ◌==◌, ◌+◌, ◌*◌, ◌/◌, ◌%◌, ◌<◌, All, IfNone, IsTrue};
+ghost use Rattle.std.specs.Prelude.{MatchOption, length, slice_range};
 ghost use Rattle.gix_hash_core.specs.Kind.{is_id_len};
 ghost use Rattle.gix_hash_core.specs.Oid.{oid_bytes};
 ghost use Rattle.c_writing.specs.HandedIn.{HaveIds, IsFirstWithoutIds, has_ids};
@@ -10,10 +10,17 @@ ghost use Rattle.c_writing.specs.SaidCommits.{HasFewParents};
 use gix_hash_core::oid;
 use graph_writer::CommitView;
 
+/// The bytes of an id of SHA-1.
+const SHA1_LEN: usize = 20;
+
+/// The bytes of an id of SHA-256.
+const SHA256_LEN: usize = 32;
+
 /// A commit that a layer is to have: for C three pointers, each with a length, and a number.
 #[repr(C)]
 #[derive(Clone, Copy)]
 pub struct CgNewCommit<'a> {
+    /// The commit's own id, of 20 or 32 bytes.
     pub id: &'a [u8],
     /// The id of its root tree.
     pub tree: &'a [u8],
@@ -42,7 +49,34 @@ fn has_ids(commit: &CgNewCommit<'_>) -> bool
     ensures few { HasFewParents commit.now }
 {
     let size = commit.id.len();
-    (size == 20 || size == 32) && commit.tree.len() == size && commit.parents.len() % size == 0
+    (size == SHA1_LEN || size == SHA256_LEN)
+        && commit.tree.len() == size
+        && are_whole(size, commit.parents.len())
+}
+
+/// Whether so many bytes are ids of this size, and no part of one more. The processor takes long to
+/// divide, but not by a number that the compiler knows.
+fn are_whole(size: usize, bytes: usize) -> bool
+    requires { IsTrue (is_id_len size) }
+    ensures { result ≡ (bytes % size == 0) }
+{
+    if size == SHA1_LEN {
+        bytes % SHA1_LEN == 0
+    } else {
+        bytes % SHA256_LEN == 0
+    }
+}
+
+/// How many ids of this size stand in so many bytes.
+fn id_count(size: usize, bytes: usize) -> usize
+    requires { IsTrue (is_id_len size) }
+    ensures { result ≡ bytes / size }
+{
+    if size == SHA1_LEN {
+        bytes / SHA1_LEN
+    } else {
+        bytes / SHA256_LEN
+    }
 }
 
 /// The id of these bytes.
@@ -82,7 +116,7 @@ impl CommitView for CgNewCommit<'_> {
     }
 
     fn parent_count(&self) -> usize {
-        self.parents.len() / self.id.len()
+        id_count(self.id.len(), self.parents.len())
     }
 
     fn parent(&self, number: usize) -> oid<'_> {
