@@ -125,7 +125,7 @@ impl<'a, C: CommitView> Guesses<'a, C> {
     }
 
     /// Makes the guesses of a block, if one begins at this place.
-    pub(crate) fn go_on(&mut self, place: usize) -> Result<(), AllocError> {
+    pub(crate) fn advance_to(&mut self, place: usize) -> Result<(), AllocError> {
         if place % BLOCK == 0 {
             self.guess_block(place)?;
         }

@@ -156,8 +156,8 @@ impl<C: CommitView> Known<'_, C> {
         None
     }
 
-    /// The refusal of the first parent that is not known, in the order in which the commits came.
-    /// This parent of this commit is not known.
+    /// The refusal of the first parent that is not known, in the order in which the commits came:
+    /// one of an earlier commit than this, or else this parent of this commit, which is not known.
     fn first_unknown(&self, number: usize, parent: usize) -> WriteError
         requires known { IsKnown self.now }
         requires number { number < length self.now.commits.now }
@@ -206,7 +206,7 @@ impl<C: CommitView> Known<'_, C> {
         let mut times = Vec::with_capacity(alloc, self.order.len())?;
         let mut positions = Vec::new(alloc);
         for place in 0..self.order.len() {
-            guesses.go_on(place)?;
+            guesses.advance_to(place)?;
             let number = self.order[place];
             let commit = self.commits.at(number);
             match self.put_parents(&commit, &mut guesses, &mut positions)? {
