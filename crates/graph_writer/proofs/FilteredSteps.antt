@@ -1,7 +1,7 @@
 -- The layer that was written has the filters that were handed in.
 use Rattle.std.proofs.Common.{◌≡◌, ℕ, ◌<◌, List, length, Option, Some, None, option_map, IsSomeAnd, slice_get}
-use Rattle.std.proofs.Common.{All, Result, Ok, Err, refl, sym, ap, ◌∙◌, subst, arith}
-use Rattle.std.specs.Prelude.{IfOk, IfSome}
+use Rattle.std.proofs.Common.{All, refl, sym, ap, ◌∙◌, subst, arith}
+use Rattle.std.specs.Prelude.{IfSome}
 use Rattle.std.proofs.lemmas.Option.{slice_get_within, slice_get-get_or, same_Some}
 use Rattle.graph_format.specs.Layer.{Layer}
 use Rattle.changed_paths.specs.Filters.{filter_of, filters_refusal}
@@ -18,13 +18,11 @@ use Rattle.graph_levels.specs.ParentLists.{parent_list}
 use Rattle.graph_levels.specs.declared.level.Level.{Level}
 use Rattle.graph_writer.specs.FiltersInOrder.{AreFiltersInOrder, MaybeInOrder}
 use Rattle.graph_writer.specs.NewFilters.{filter_numbers_in, filter_count, numbers_at_head}
-use Rattle.graph_writer.specs.NewFilters.{AreRightNumbers, HasNewFilters, HasFiltersOf, IsWrittenWith}
+use Rattle.graph_writer.specs.NewFilters.{AreRightNumbers, HasNewFilters, HasFiltersOf}
 use Rattle.graph_writer.specs.NewLayers.{IsNewLayer}
 use Rattle.graph_writer.specs.PlannedCommits.{IsPlanOf}
 use Rattle.graph_writer.specs.SortedPlaces.{IsMixed}
-use Rattle.graph_writer.specs.WrittenLayers.{IsWritten}
 use Rattle.graph_writer.specs.declared.commit.NewCommit.{NewCommit}
-use Rattle.graph_writer.specs.declared.commit.WriteError.{WriteError}
 use Rattle.graph_writer.specs.declared.filters.NewFilters.{NewFilters}
 use Rattle.graph_writer.specs.declared.new_layer.NewLayer.{NewLayer}
 use Rattle.graph_writer.proofs.FilterSteps.{read-filter, read-numbers, accepted}
@@ -111,9 +109,3 @@ kept-fit None None order is = tt
 kept-fit None (Some sorted) order is = absurd is
 kept-fit (Some filters) None order is = absurd is
 kept-fit (Some filters) (Some sorted) order is = record { count = is.as_many; room = sorted.few }
-
--- without filters a layer is one of its commits
-pub plain : {X : Type 0} (items : X → List ℕ) (layers : List Layer) (commits : List NewCommit) (r : Result X WriteError)
-    → IfOk r (λ x. IsWrittenWith layers commits None (items x)) → IfOk r (λ x. IsWritten layers commits (items x))
-plain items layers commits (Ok x) written = λ path. let found = written path in (found.0, found.1, found.2)
-plain items layers commits (Err e) written = tt

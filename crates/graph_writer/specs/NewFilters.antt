@@ -74,3 +74,7 @@ abbrev pub IsWrittenWith : List Layer → List NewCommit → Option NewFilters �
 IsWrittenWith layers commits filters bytes =
     (path : List ℕ) → (layer : Layer) × IsLayer bytes path layer × IsWrittenLayer layers commits layer
     × HasFiltersOf commits filters layer
+
+-- The bytes are a file of a layer of these commits, which has no filters, whatever its name.
+abbrev pub IsWritten : List Layer → List NewCommit → List ℕ → Type 0
+IsWritten layers commits bytes = IsWrittenWith layers commits None bytes

@@ -3,7 +3,7 @@
 use Rattle.std.specs.Prelude.{◌≡◌, ◌++◌, ◌∷◌, [], ℕ, List, None, Some, All, IsSomeAnd, length, map, slice_get}
 use Rattle.graph_walks.specs.Dates.{AreRight}
 use Rattle.graph_format.specs.Format.{Record}
-use Rattle.graph_format.specs.Layer.{Layer, IsLayer}
+use Rattle.graph_format.specs.Layer.{Layer}
 use Rattle.graph_format.specs.NameRule.{KeepsNameRule}
 use Rattle.graph_format.specs.Order.{AreAscending}
 use Rattle.graph_format.specs.Parents.{parents_of}
@@ -46,8 +46,3 @@ pub record IsWrittenLayer (layers : List Layer) (handed : List NewCommit) (layer
   pub dates : All HasDates layers → HasDates layer
       × AreRight (history_of (layers ++ layer ∷ [])) (times_of (layers ++ layer ∷ [])) (dates_of (layers ++ layer ∷ []))
   pub no_dates : ¬ All HasDates layers → ¬ HasDates layer
-
--- The bytes are a file of such a layer, whatever its name.
-abbrev pub IsWritten : List Layer → List NewCommit → List ℕ → Type 0
-IsWritten layers commits bytes =
-    (path : List ℕ) → (layer : Layer) × IsLayer bytes path layer × IsWrittenLayer layers commits layer

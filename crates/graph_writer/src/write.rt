@@ -10,10 +10,10 @@ ghost use Rattle.graph_levels.specs.OnTop.{HasLevelGenerations, HasNoCycleOnTop,
 ghost use Rattle.graph_levels.specs.OnTop.{level_at};
 ghost use Rattle.graph_levels.specs.ParentLists.{commit_count};
 ghost use Rattle.graph_writer.specs.NewCommits.{layers_of_below};
-ghost use Rattle.graph_writer.specs.NewFilters.{filter_count, filters_handed, IsWrittenWith};
+ghost use Rattle.graph_writer.specs.NewFilters.{filter_count, filters_handed, IsWritten};
+ghost use Rattle.graph_writer.specs.NewFilters.{IsWrittenWith};
 ghost use Rattle.graph_writer.specs.OwnLevels.{MayHaveNoLevels};
 ghost use Rattle.graph_writer.specs.WritingRefusal.{AreAccepted, MayRefuseWriting};
-ghost use Rattle.graph_writer.specs.WrittenLayers.{IsWritten};
 
 use crate::commit::{NewCommit, WriteError};
 use crate::filters::NewFilters;
