@@ -602,8 +602,8 @@ static inline cg_bytes cg_no_bytes() { cg_bytes none = { NULL, false }; return n
  *   401 to 405                   the corrected dates of the graph are wrong: as in cg_dates, with `layer`, `position`, `expected`;
  *   CG_WRITE_CYCLE               `commit` is its own ancestor;
  *   CG_WRITE_TOO_MANY_LAYERS, CG_WRITE_TOO_MANY_EDGES;
- *   CG_OUT_OF_MEMORY             which may stand before all of these but the first two, since all commits are copied before the rest
- *                                is looked for.
+ *   CG_OUT_OF_MEMORY             which may stand before all of these from CG_WRITE_TWICE on, where a commit is handed in: from there
+ *                                on memory is needed.
  * What is not named is 0. */
 typedef struct cg_write_error { uint32_t code, position; uint64_t commit, other, layer, expected; } cg_write_error;
 

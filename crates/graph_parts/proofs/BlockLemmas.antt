@@ -3,12 +3,12 @@ use Rattle.std.proofs.Common.{◌≡◌, ℕ, suc, zero, ◌+◌, ◌-◌, ◌*�
 use Rattle.std.proofs.Common.{true, false, take, drop, if◌then◌else◌, Result, Ok, Err, IfOk, is_ok, is_err}
 use Rattle.std.proofs.Common.{Option, Some, None, Vec, slice_range, refl, sym, ap, subst, ◌∙◌, arith, inl, inr, get_or}
 use Rattle.std.specs.Global.{Global}
-use Rattle.std.specs.List.{slice_get}
+use Rattle.std.specs.List.{slice_get, slice_index_or}
 use Rattle.std.specs.Option.{ForSome, IfNone, IfSome, IsSomeAnd, is_some}
 use Rattle.std.proofs.Math.ListN.{set}
 use Rattle.std.proofs.Math.Nat.{mul-add, mul-le-mul_left}
 use Rattle.std.proofs.lemmas.List.{drop-append-le, drop_at, length-append, length-drop, length_push, take-append-le, take_all}
-use Rattle.std.proofs.lemmas.Option.{same_Some, slice_get_read, slice_get_within}
+use Rattle.std.proofs.lemmas.Option.{same_Some, slice_get-get_or, slice_get_read, slice_get_within}
 use Rattle.graph_format.proofs.PieceLemmas.{slice_range-slice_range}
 use Rattle.graph_folder.specs.Tree.{Tree, file_at}
 use Rattle.graph_parts.specs.PieceBlocks.{AddsStretch, AreOf, AreSized, CanKeep, HasBlock, HasStretch, IsPieceKept, IsPieceOf}
@@ -16,6 +16,7 @@ use Rattle.graph_parts.specs.PieceBlocks.{KeepsNothing, KeepsSame, LacksBlock, R
 use Rattle.graph_parts.specs.PieceBlocks.{stretch_start}
 use Rattle.graph_parts.specs.declared.pieces.TheConstants.{BLOCK_LEN}
 use Rattle.graph_parts.specs.declared.pieces.Kept.{Kept}
+use Rattle.graph_parts.specs.declared.pieces.Kept.TheVariants.{At}
 use Rattle.graph_parts.specs.declared.pieces.Pieces.{Pieces}
 use Rattle.graph_parts.specs.declared.pieces.Series.{Series}
 use Rattle.graph_parts.specs.declared.pieces.Stretch.{Stretch}
@@ -328,6 +329,13 @@ module _ (old new : Pieces) (index : ℕ) (piece : List ℕ) (long : length piec
     there = (length old.alone, alone-kept, rw (bytes, series) piece-last);
   }
 
+  pub alone-at : (start : ℕ) → start ≡ length old.bytes.items → IsPieceKept new index (At start)
+  alone-at start is = (
+    length old.alone,
+    alone-kept,
+    is ∙ sized.alone ∙ sym (ap (λ (p : Series). p.size * length old.alone) series),
+  )
+
   pub alone-sized : AreSized new
   alone-sized = record {
     blocks = λ k b has. rw series (sized.blocks k b (rw blocks at has));
@@ -346,9 +354,10 @@ pub taken : {A E : Type 0} (r : Result A E) (old more new : List ℕ) → is_err
 taken (Ok x) old more new passed is = is
 taken (Err e) old more new passed is = let clash : true ≡ false = passed in cc
 
--- an index that was put after the others
-pub numbered : (old new : List ℕ) (index n : ℕ) → n ≡ length old → new ≡ old ++ index ∷ [] → slice_get new n ≡ Some index
-numbered old new index n last is = rw (last, is) (get-last old index)
+-- a piece that was found among those that are kept alone
+pub found-alone : (alone : List ℕ) (place index : ℕ) → place < length alone → slice_index_or alone place 0 ≡ index
+    → slice_get alone place ≡ Some index
+found-alone alone place index within is = slice_get-get_or alone place 0 within ∙ ap Some is
 
 -- a piece of a block that is a file's is the file's
 pub piece-of : (pieces : Pieces) (file block : List ℕ) (index : ℕ) → index < pieces.series.count

@@ -9,7 +9,7 @@ use Rattle.gix_chunk_core.specs.FirstBytes.{BeginsWith}
 use Rattle.graph_folder.specs.Tree.{Tree, file_at}
 use Rattle.graph_format.specs.Layer.{Layer, decoded_layer}
 use Rattle.graph_find.specs.declared.chain.ChainLayer.{ChainLayer}
-use Rattle.graph_parts.specs.OfTree.{AreOfTree, IsOfFile, IsOfTree}
+use Rattle.graph_parts.specs.OfTree.{AreOfTree, IsOfTree}
 use Rattle.graph_parts.specs.PieceBlocks.{AreOf}
 use Rattle.graph_parts.specs.Shown.{SeesMore, Shows, files_of}
 use Rattle.graph_parts.specs.ShownLayer.{ShowsLayer}

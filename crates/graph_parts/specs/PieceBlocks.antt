@@ -6,7 +6,7 @@ use Rattle.std.specs.Option.{ForSome}
 use Rattle.graph_folder.specs.Tree.{Tree, file_at}
 use Rattle.graph_parts.specs.declared.pieces.TheConstants.{BLOCK_LEN}
 use Rattle.graph_parts.specs.declared.pieces.Kept.{Kept}
-use Rattle.graph_parts.specs.declared.pieces.Kept.TheVariants.{InBlock, ByNumber}
+use Rattle.graph_parts.specs.declared.pieces.Kept.TheVariants.{InBlock, At}
 use Rattle.graph_parts.specs.declared.pieces.Pieces.{Pieces}
 use Rattle.graph_parts.specs.declared.pieces.Series.{Series}
 use Rattle.graph_parts.specs.declared.pieces.Stretch.{Stretch}
@@ -66,7 +66,8 @@ CanKeep pieces (Alone index) = ⊤
 -- the piece of an index is kept so
 abbrev pub IsPieceKept : Pieces → ℕ → Kept → Type 0
 IsPieceKept pieces index InBlock = (block : Vec ℕ Global) × HasBlock pieces (index / BLOCK_LEN) block
-IsPieceKept pieces index (ByNumber number) = slice_get pieces.alone number ≡ Some index
+IsPieceKept pieces index (At start) =
+    (number : ℕ) × (slice_get pieces.alone number ≡ Some index) × (start ≡ pieces.series.size * number)
 
 -- Each block that is kept has its length, and the pieces that are kept alone have theirs.
 pub record AreSized (pieces : Pieces) : Type 0 where

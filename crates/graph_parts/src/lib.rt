@@ -5,7 +5,6 @@
 mod guesses;
 mod layer;
 mod lookup;
-mod numbering;
 pub mod opening;
 pub mod parts;
 mod pieces;

@@ -99,37 +99,12 @@ pub fn open_info_parts<T: Folder>(
         ≡ failures_after result (T.failure_count folder.old) }
 {
     let file = info_file_path(alloc, path).map_err(|_| ReadError::OutOfMemory)?;
-    let answer = open_standing_file(alloc, folder, file.as_str());
+    let answer = open_file_parts(alloc, folder, file.as_str());
     if is_opened(&answer) {
         return answer;
     }
     let chain = info_chain_path(alloc, path).map_err(|_| ReadError::OutOfMemory)?;
     open_chain_parts(alloc, folder, chain.as_str())
-}
-
-/// The parts of the file at the path, and `NotOpened` where none stands there. The folder is asked
-/// for that first: of a file that is not there a read may say that it is to be read whole.
-fn open_standing_file<T: Folder>(
-    alloc: Global,
-    folder: &mut T,
-    path: &str,
-) -> Result<Option<GraphParts>, ReadError>
-    ensures opened { IfOk result (λ answer. IfSome answer (ArePartsOf (T.tree folder.old)
-        (λ tree. file_opened tree path.now) (IsFromFile path.now))) }
-    ensures not_opened { ForSome (T.tree folder.old) (λ tree.
-        IsErrOf result ReadError.NotOpened → file_at tree path.now ≡ None) }
-    ensures tree { T.tree folder.new ≡ T.tree folder.old }
-    ensures failures { T.failure_count folder.new
-        ≡ failures_after result (T.failure_count folder.old) }
-{
-    let Ok(is_there) = folder.is_file(alloc, path) else {
-        return Err(ReadError::OutOfMemory);
-    };
-    if is_there {
-        open_file_parts(alloc, folder, path)
-    } else {
-        Err(ReadError::NotOpened)
-    }
 }
 
 /// Whether the answer is not that the file was not opened.

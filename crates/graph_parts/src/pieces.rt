@@ -13,7 +13,7 @@ ghost use Rattle.graph_parts.specs.PieceBlocks.{KeepsSame, LacksBlock, ReadsMore
 ghost use Rattle.graph_parts.specs.PieceBlocks.{stretch_first, stretch_len, stretch_start};
 ghost use Rattle.graph_parts.specs.declared.pieces.Stretch.TheVariants.{Alone, Block};
 
-use crate::numbering::Numbering;
+use commit_search::Places;
 use graph_find::reading::read_range;
 use graph_folder::folder::{Folder, ReadError};
 use std::alloc::Global;
@@ -36,7 +36,7 @@ pub(crate) enum Stretch {
     /// Those of the block of this number.
     Block(usize),
     /// The piece of this index alone.
-    Alone(usize),
+    Alone(u32),
 }
 
 /// How a piece is kept.
@@ -44,8 +44,8 @@ pub(crate) enum Stretch {
 pub(crate) enum Kept {
     /// In its block.
     InBlock,
-    /// Alone: this is its number among those that are.
-    ByNumber(usize),
+    /// Alone: at this byte of those that are kept so.
+    At(usize),
 }
 
 /// A series of pieces, and those of them that were read: first one by one, so many of them, and
@@ -53,9 +53,10 @@ pub(crate) enum Kept {
 #[derive(Drop)]
 pub(crate) struct Pieces {
     pub(crate) series: Series,
-    most_alone: usize,
+    /// How many more are to be read one by one.
+    left_alone: usize,
     /// Which pieces were read alone, by their indices.
-    alone: Numbering,
+    alone: Places,
     /// The bytes of these pieces, one after another.
     bytes: Vec<u8>,
     blocks: Vec<Option<Vec<u8>>>,
@@ -71,8 +72,8 @@ impl Pieces {
     {
         Pieces {
             series,
-            most_alone,
-            alone: Numbering::new(alloc),
+            left_alone: most_alone,
+            alone: Places::new(alloc),
             bytes: Vec::new(alloc),
             blocks: Vec::new(alloc),
         }
@@ -126,10 +127,7 @@ impl Pieces {
     {
         match kept {
             Kept::InBlock => self.piece_of_block(index),
-            Kept::ByNumber(number) => {
-                let start = self.series.size * number;
-                &self.bytes[start..start + self.series.size]
-            }
+            Kept::At(start) => &self.bytes[start..start + self.series.size],
         }
     }
 
@@ -152,15 +150,27 @@ impl Pieces {
 
     /// How a piece is kept, if it is.
     fn kept(&self, index: usize) -> Option<Kept>
+        requires { AreSized self.now }
         ensures some { IfSome result (IsPieceKept self.now index) }
         ensures none { IfNone result (LacksBlock self.now (index / BLOCK_LEN)) }
     {
         match self.block(index / BLOCK_LEN) {
             Some(_) => Some(Kept::InBlock),
-            None => match self.alone.number_of(index) {
-                Some(number) => Some(Kept::ByNumber(number)),
-                None => None,
-            },
+            None => self.kept_alone(index),
+        }
+    }
+
+    /// How a piece is kept alone, if it is.
+    fn kept_alone(&self, index: usize) -> Option<Kept>
+        requires { AreSized self.now }
+        ensures { IfSome result (IsPieceKept self.now index) }
+    {
+        let Ok(number) = u32::try_from(index) else {
+            return None;
+        };
+        match self.alone.place_of(number) {
+            Some(place) => Some(Kept::At(self.series.size * place)),
+            None => None,
         }
     }
 
@@ -183,10 +193,9 @@ impl Pieces {
     fn stretch_of(&self, index: usize) -> Stretch
         ensures { IsPieceOf result index }
     {
-        if self.alone.len() < self.most_alone {
-            Stretch::Alone(index)
-        } else {
-            Stretch::Block(index / BLOCK_LEN)
+        match u32::try_from(index) {
+            Ok(number) if self.left_alone > 0 => Stretch::Alone(number),
+            _ => Stretch::Block(index / BLOCK_LEN),
         }
     }
 
@@ -238,7 +247,7 @@ impl Pieces {
     }
 
     /// Keeps a piece alone.
-    fn keep_alone(&mut self, index: usize, piece: &[u8]) -> Result<Kept, ReadError>
+    fn keep_alone(&mut self, index: u32, piece: &[u8]) -> Result<Kept, ReadError>
         requires long { length piece.now ≡ self.old.series.size }
         requires sized { AreSized self.old }
         ensures adds { OnOk result (AddsStretch self.old self.new (Alone index) piece.now) }
@@ -247,14 +256,17 @@ impl Pieces {
         ensures sized { AreSized self.new }
         ensures memory { IfErr result (λ error. error ≡ ReadError.OutOfMemory) }
     {
-        let (number, end) = (self.alone.len(), self.bytes.len());
+        let start = self.bytes.len();
         if self.bytes.extend_from_slice(piece).is_err() {
             return Err(ReadError::OutOfMemory);
         }
         match self.alone.push(index) {
-            Ok(()) => Ok(Kept::ByNumber(number)),
+            Ok(()) => {
+                self.left_alone = self.left_alone.saturating_sub(1);
+                Ok(Kept::At(start))
+            }
             Err(_) => {
-                self.bytes.truncate(end);
+                self.bytes.truncate(start);
                 Err(ReadError::OutOfMemory)
             }
         }
@@ -307,7 +319,7 @@ impl Series {
     {
         match stretch {
             Stretch::Block(number) => BLOCK_LEN * number,
-            Stretch::Alone(index) => index,
+            Stretch::Alone(index) => index as usize,
         }
     }
 

@@ -58,15 +58,14 @@ reads-after known now is old new later right same of kept ends =
 
 module _ (known : Option Tree) (new : GraphParts) (layers : List Layer) (tells : PartsTell known new (told_of layers))
     (first : ℕ) where
-  pub told-unchecked : {E : Type 0} (second : ℕ) (r : Result Bool E)
-      → IfOk r (λ found. (t : Told) → PartsTell known new t → IsTrue found → Reaches t.history second first)
-      → IfOk r (λ found. (t : Told) → PartsTell known new t → CountWalks t.history → Reaches t.history second first
-      → IsTrue found) → IfOk r (IsToldUnchecked layers first second)
-  told-unchecked second (Ok found) there all = record {
+  pub told-unchecked : (second : ℕ) (found : Bool)
+      → ((t : Told) → PartsTell known new t → IsTrue found → Reaches t.history second first)
+      → ((t : Told) → PartsTell known new t → CountWalks t.history → Reaches t.history second first → IsTrue found)
+      → IsToldUnchecked layers first second found
+  told-unchecked second found there all = record {
     there = there (told_of layers) tells;
     all = all (told_of layers) tells;
   }
-  told-unchecked second (Err e) there all = tt
 
   pub steps-unchecked : (second : ℕ) (reached : Reached)
       → ((t : Told) → PartsTell known new t → IsAnyAnswer t.history first second reached)

@@ -9,11 +9,13 @@ use Rattle.graph_format.specs.declared.Position.{Position}
 use Rattle.gix_commitgraph.specs.Graph.{IsGraph}
 use Rattle.gix_commitgraph.specs.OpenAlways.{IsFromPath}
 use Rattle.commit_search.specs.Positions.{numbers_of}
+use Rattle.commit_search.specs.Source.{Told}
 use Rattle.graph_parts.specs.PathOpening.{opened_at}
-use Rattle.graph_parts.specs.Shown.{ArePartsOf, SeesMore, Shows}
+use Rattle.graph_parts.specs.OfTree.{AreOfTree}
+use Rattle.graph_parts.specs.Shown.{AreGraphParts, ArePartsOf, SeesMore, Shows, files_of}
 use Rattle.graph_parts.specs.declared.parts.GraphParts.{GraphParts}
 use Rattle.graph_parts.proofs.TreeLemmas.{seen-shown}
-use Rattle.graph_unchecked.specs.PartSource.{ReadsOn}
+use Rattle.graph_unchecked.specs.PartSource.{PartsTell, ReadsOn}
 use Rattle.graph_unchecked.specs.PartLookups.{AreBoth, AreFirstAndOthers}
 use Rattle.graph_unchecked.specs.Trusted.{IsTrustedAt}
 use Rattle.graph_unchecked.specs.Unchecked.{IsAnswerAt, IsFoundAmong, IsFoundAt, IsFoundBetween}
@@ -21,7 +23,8 @@ use Rattle.graph_unchecked.specs.declared.among.Among.TheVariants.{Known as know
 use Rattle.graph_unchecked.specs.declared.between.Between.TheVariants.{Known}
 use Rattle.graph_unchecked.specs.declared.unread.Unread.{Unread}
 use Rattle.graph_unchecked.specs.declared.unread.Unread.TheVariants.{Device}
-use Rattle.graph_unchecked.proofs.SearchLemmas.{shows-after}
+use Rattle.graph_unchecked.proofs.SearchLemmas.{reads-after, shows-after}
+use Rattle.graph_unchecked.proofs.SourceLemmas.{reads_on}
 
 -- parts that are read one after another
 pub reads-then : (known : Option Tree) (old mid new : GraphParts) → ReadsOn known old mid → ReadsOn known mid new
@@ -32,6 +35,15 @@ reads-then known old mid new first second = record {
   of = λ of. second.of (first.of of);
   kept = λ t tells. first.kept t (second.kept t tells);
 }
+
+-- more was read for a lookup, and then by a search
+pub reads-searched : (known between now : Option Tree) (old mid new later : GraphParts) → between ≡ known → now ≡ between
+    → AreGraphParts mid → SeesMore known old mid → AreGraphParts new → files_of new ≡ files_of mid → AreOfTree now new
+    → ((t : Told) → PartsTell now new t → PartsTell between mid t) → later ≡ new → ReadsOn known old later
+reads-searched known between now old mid new later first second right sees there same of kept ends =
+    reads-then known old mid later (reads_on known old mid right sees)
+    (subst (λ (k : Option Tree). ReadsOn k mid later) first
+    (reads-after between now second mid new later there same of kept ends))
 
 -- the parts of what was opened
 pub of-opened : (known : Option Tree) (path : List ℕ) (parts : GraphParts)

@@ -52,7 +52,12 @@ pub(crate) fn told_between<T: Folder>(
         Between::FirstMissing => Ok(Between::FirstMissing),
         Between::SecondMissing => Ok(Between::SecondMissing),
         Between::Known((first, second)) => {
-            let told = leads(searcher, alloc, folder, parts, first, second)?;
+            let mut commits = PartCommits {
+                alloc,
+                folder,
+                parts,
+            };
+            let told = searcher.is_ancestor(&mut commits, first, second)?;
             Ok(Between::Known(told))
         }
     }
@@ -114,33 +119,6 @@ pub(crate) fn compared_among<T: Folder>(
             Ok(Among::Known(comparison))
         }
     }
-}
-
-/// Whether a walk along parents leads from the second commit to the first.
-fn leads<T: Folder>(
-    searcher: &mut FewSearcher,
-    alloc: Global,
-    folder: &mut T,
-    parts: &mut GraphParts,
-    first: Position,
-    second: Position,
-) -> Result<bool, Unread>
-    requires parts { AreGraphParts parts.old }
-    requires of { AreOfTree (T.tree folder.old) parts.old }
-    requires first { first.0 < commits_of_parts parts.old }
-    requires second { second.0 < commits_of_parts parts.old }
-    ensures reads { ReadsOn (T.tree folder.old) parts.old parts.new }
-    ensures told { ForSome (T.tree folder.old) (λ _. (layers : List Layer)
-        → Shows (T.tree folder.old) parts.old layers → IsGraph layers
-        → IfOk result (IsToldUnchecked layers first.0 second.0)) }
-    ensures tree { T.tree folder.new ≡ T.tree folder.old }
-{
-    let mut commits = PartCommits {
-        alloc,
-        folder,
-        parts,
-    };
-    searcher.is_ancestor(&mut commits, first, second)
 }
 
 /// The ids on a walk along parents from the first commit to the second.

@@ -4,6 +4,7 @@
 ghost use Rattle.std.specs.Prelude.{◌≡◌, [], ◌∷◌, IfOk, OnOk, map, string_bytes};
 ghost use Rattle.std.specs.Io.KnownBytes.{Appends};
 ghost use Rattle.std.specs.List.{flat_map, zip};
+ghost use Rattle.graph_commands.specs.Buffer.{with_buffer};
 ghost use Rattle.graph_commands.specs.OpenerAnswer.{MayOpen};
 ghost use Rattle.graph_commands.specs.WrittenAnswer.{IsToldOf, WritesAnswer};
 ghost use Rattle.unchecked_commands.specs.UncheckedBases.{MayCompareByParts, MayCompareUnchecked};
@@ -173,8 +174,24 @@ fn write_bases<W: Write>(
     ensures { OnOk result (Appends (W.contents writer.old) (W.contents writer.new)
         (flat_map line_of_told (zip bases.now ids.now))) }
 {
+    push_bases(buffer, writer, bases, ids)?;
+    buffer.write_out(writer)
+}
+
+/// Adds the lines of bases: the position of each, and its id. `WriteFailed` comes where the writer
+/// fails.
+pub fn push_bases<W: Write>(
+    buffer: &mut Buffer,
+    writer: &mut W,
+    bases: &[Position],
+    ids: &[ObjectId],
+) -> Result<(), WriteFailed>
+    ensures { OnOk result (Appends (with_buffer (W.contents writer.old) buffer.old)
+        (with_buffer (W.contents writer.new) buffer.new)
+        (flat_map line_of_told (zip bases.now ids.now))) }
+{
     for place in 0..bases.len().min(ids.len()) {
         push_line_of_base(buffer, writer, bases[place], ids[place].as_oid())?;
     }
-    buffer.write_out(writer)
+    Ok(())
 }

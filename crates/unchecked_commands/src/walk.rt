@@ -3,6 +3,7 @@
 ghost use Rattle.std.specs.Prelude.{◌≡◌, [], IfOk, OnOk};
 ghost use Rattle.std.specs.Io.KnownBytes.{Appends};
 ghost use Rattle.std.specs.List.{flat_map};
+ghost use Rattle.graph_commands.specs.Buffer.{with_buffer};
 ghost use Rattle.graph_commands.specs.OpenerAnswer.{MayOpen};
 ghost use Rattle.graph_commands.specs.WrittenAnswer.{IsToldOf, WritesAnswer};
 ghost use Rattle.history_commands.specs.Walk.{IsWalkOfIds, MayBeWalk, id_line};
@@ -128,9 +129,22 @@ pub(crate) fn write_ids<W: Write>(
     ensures { OnOk result (Appends (W.contents writer.old) (W.contents writer.new)
         (flat_map id_line ids.now)) }
 {
+    push_ids(buffer, writer, ids)?;
+    buffer.write_out(writer)
+}
+
+/// Adds ids, a line for each. `WriteFailed` comes where the writer fails.
+pub fn push_ids<W: Write>(
+    buffer: &mut Buffer,
+    writer: &mut W,
+    ids: &[ObjectId],
+) -> Result<(), WriteFailed>
+    ensures { OnOk result (Appends (with_buffer (W.contents writer.old) buffer.old)
+        (with_buffer (W.contents writer.new) buffer.new) (flat_map id_line ids.now)) }
+{
     for id in ids {
         buffer.push_id(writer, id.as_oid())?;
         buffer.push_byte(writer, b'\n')?;
     }
-    buffer.write_out(writer)
+    Ok(())
 }

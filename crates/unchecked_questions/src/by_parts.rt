@@ -26,10 +26,11 @@ use graph_folder::folder::Folder;
 use graph_parts::parts::StoredCommit;
 use graph_unchecked::question::{Among, Between, IdComparison, Unread};
 use graph_unchecked::trusted::TrustedGraph;
-use history_commands::bases::push_line_of_base;
 use question_answers::telling::{push_counts, push_found};
 use question_lines::question::Question;
 use std::io::Write;
+use unchecked_commands::bases::push_bases;
+use unchecked_commands::walk::push_ids;
 
 /// What is read by parts for a question.
 #[derive(Drop)]
@@ -165,22 +166,6 @@ fn push_walk<W: Write>(
     }
 }
 
-/// Adds ids, a line for each.
-fn push_ids<W: Write>(
-    buffer: &mut Buffer,
-    writer: &mut W,
-    ids: &[ObjectId],
-) -> Result<(), WriteFailed>
-    ensures { OnOk result (Appends (with_buffer (W.contents writer.old) buffer.old)
-        (with_buffer (W.contents writer.new) buffer.new) (flat_map id_line ids.now)) }
-{
-    for id in ids {
-        buffer.push_id(writer, id.as_oid())?;
-        buffer.push_byte(writer, b'\n')?;
-    }
-    Ok(())
-}
-
 /// Adds the lines of what commits have in common, or which id is not there.
 fn push_compared<W: Write>(
     buffer: &mut Buffer,
@@ -198,19 +183,15 @@ fn push_compared<W: Write>(
             buffer.push_byte(writer, b'\n')
         }
         Among::Known(answer) => {
-            push_bases(
-                buffer,
-                writer,
-                &answer.comparison.bases.positions,
-                &answer.base_ids,
-            )?;
+            let bases = &answer.comparison.bases.positions;
+            push_bases_or_none(buffer, writer, bases, &answer.base_ids)?;
             push_counts(buffer, writer, &answer.comparison)
         }
     }
 }
 
 /// Adds the lines of bases with their ids, or that there is none.
-fn push_bases<W: Write>(
+fn push_bases_or_none<W: Write>(
     buffer: &mut Buffer,
     writer: &mut W,
     bases: &[Position],
@@ -223,10 +204,7 @@ fn push_bases<W: Write>(
     if bases.is_empty() {
         return buffer.push_text(writer, "none\n");
     }
-    for place in 0..bases.len().min(ids.len()) {
-        push_line_of_base(buffer, writer, bases[place], ids[place].as_oid())?;
-    }
-    Ok(())
+    push_bases(buffer, writer, bases, ids)
 }
 
 /// Adds the line of the parents with these ids.

@@ -9,9 +9,9 @@ pub returns-then-is_opened-clause-opened : goal.returns-then-is_opened-clause-op
 returns-then-is_opened-clause-opened g c =
     let path = c.args.path.now in
     let named : c.as_str.result.now ≡ info_file path = search rules in
-    ok-some c.open_standing_file-answer.result _ _
+    ok-some c.open_file_parts-answer.result _ _
     (info-file (g.T.Folder.tree c.args.folder.now) path c.as_str.result.now named)
-    c.open_standing_file-answer.ensures.opened
+    c.open_file_parts-answer.ensures.opened
 
 pub returns-clause-opened : goal.returns-clause-opened
 returns-clause-opened g c =
@@ -21,6 +21,6 @@ returns-clause-opened g c =
     let called : c.as_str-2.result.now ≡ info_chain path = search rules in
     let closed : c.is_opened.result ≡ false = cc in
     ok-some c.open_chain_parts.result _ _
-    (info-chain known path _ c.as_str.result.now c.as_str-2.result.now c.open_standing_file-answer.ensures.tree named called
-    (λ tree is. c.open_standing_file-answer.ensures.not_opened tree is (c.is_opened.ensures closed)))
+    (info-chain known path _ c.as_str.result.now c.as_str-2.result.now c.open_file_parts-answer.ensures.tree named called
+    (λ tree is. c.open_file_parts-answer.ensures.not_opened tree is (c.is_opened.ensures closed)))
     c.open_chain_parts.ensures.opened

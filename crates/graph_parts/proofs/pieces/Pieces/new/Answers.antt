@@ -7,7 +7,7 @@ returns-clause-none c =
     nothing-kept
     (record {
       series = c.args.series;
-      most_alone = c.args.most_alone;
+      left_alone = c.args.most_alone;
       alone = c.new.result;
       bytes = c.new-2.result;
       blocks = c.new-3.result;
@@ -19,7 +19,7 @@ returns-clause-sized c =
     nothing-sized
     (record {
       series = c.args.series;
-      most_alone = c.args.most_alone;
+      left_alone = c.args.most_alone;
       alone = c.new.result;
       bytes = c.new-2.result;
       blocks = c.new-3.result;

@@ -6,25 +6,19 @@ use Rattle.graph_parts.proofs.pieces.Pieces.piece.Goals as goal
 pub piece_of_block-requires-clause-kept : goal.piece_of_block-requires-clause-kept
 piece_of_block-requires-clause-kept c = rw c.in-InBlock.is at c.requires.kept
 
-pub overflow_mul-start : goal.overflow_mul-start
-overflow_mul-start c =
-    let at = rw c.in-ByNumber.is at c.requires.kept in
-    let within = alone-within c.args.self.now c.in-ByNumber.number c.args.index c.requires.sized at in
-    omega (arith, within, c.args.self.now.bytes.ok, c.args.self.now.bytes.small)
-
 pub overflow_add-result : goal.overflow_add-result
 overflow_add-result c =
-    let at = rw c.in-ByNumber.is at c.requires.kept in
-    let within = alone-within c.args.self.now c.in-ByNumber.number c.args.index c.requires.sized at in
-    omega (arith, within, c.args.self.now.bytes.ok, c.args.self.now.bytes.small)
+    let at = rw c.in-At.is at c.requires.kept in
+    let within = alone-within c.args.self.now at.0 c.args.index c.requires.sized at.1 in
+    omega (arith, within, at.2, c.args.self.now.bytes.ok, c.args.self.now.bytes.small)
 
 pub slice_bounds-result-end : goal.slice_bounds-result-end
 slice_bounds-result-end c =
-    let at = rw c.in-ByNumber.is at c.requires.kept in
-    let within = alone-within c.args.self.now c.in-ByNumber.number c.args.index c.requires.sized at in
-    omega (arith, within, c.deref.ensures.len, c.args.self.now.bytes.ok)
+    let at = rw c.in-At.is at c.requires.kept in
+    let within = alone-within c.args.self.now at.0 c.args.index c.requires.sized at.1 in
+    omega (arith, within, at.2, c.deref.ensures.len, c.args.self.now.bytes.ok)
 
-pub returns-in-ByNumber-clause-piece : goal.returns-in-ByNumber-clause-piece
-returns-in-ByNumber-clause-piece c = λ file of.
-    let at = rw c.in-ByNumber.is at c.requires.kept in
-    rw c.deref.ensures.value (alone-of c.args.self.now c.in-ByNumber.number c.args.index file of at)
+pub returns-in-At-clause-piece : goal.returns-in-At-clause-piece
+returns-in-At-clause-piece c = λ file of.
+    let at = rw c.in-At.is at c.requires.kept in
+    rw (c.deref.ensures.value, at.2) (alone-of c.args.self.now at.0 c.args.index file of at.1)

@@ -1,9 +1,8 @@
 -- One more line is added, and in the end those of all bases are.
 use Rattle.std.proofs.Common.{subst, arith}
 use Rattle.std.specs.Io.KnownBytes.{Appends}
-use Rattle.graph_commands.proofs.BufferLemmas.{appends_written}
 use Rattle.unchecked_commands.proofs.BasesLemmas.{lines-all, lines-more}
-use Rattle.unchecked_commands.proofs.bases.write_bases.Goals as goal
+use Rattle.unchecked_commands.proofs.bases.push_bases.Goals as goal
 
 pub loop-place-preserved : goal.loop-place-preserved
 loop-place-preserved g c =
@@ -14,5 +13,4 @@ loop-place-preserved g c =
 pub returns : goal.returns
 returns g c =
     let all = lines-all c.args.bases.now c.args.ids.now c.loop-place.place (omega arith) in
-    appends_written c.write_out.result _ _ _ c.args.buffer.now _ _ c.requires.empty
-    (subst (Appends _ _) all c.loop-place.invariant) c.write_out.ensures.written
+    subst (Appends _ _) all c.loop-place.invariant

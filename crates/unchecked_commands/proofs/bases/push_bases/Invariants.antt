@@ -4,7 +4,7 @@ use Rattle.std.specs.Io.KnownBytes.{Appends}
 use Rattle.std.specs.List.{flat_map, zip}
 use Rattle.graph_commands.specs.Buffer.{with_buffer}
 use Rattle.unchecked_commands.specs.UncheckedBases.{line_of_told}
-use Rattle.unchecked_commands.proofs.bases.write_bases.Given as goal
+use Rattle.unchecked_commands.proofs.bases.push_bases.Given as goal
 
 abbrev pub invariant-loop-place : goal.invariant-loop-place
 invariant-loop-place g l =

@@ -4,7 +4,7 @@ use Rattle.std.specs.List.{flat_map}
 use Rattle.std.specs.Io.KnownBytes.{Appends}
 use Rattle.graph_commands.specs.Buffer.{with_buffer}
 use Rattle.history_commands.specs.Walk.{id_line}
-use Rattle.unchecked_questions.proofs.by_parts.push_ids.Given as goal
+use Rattle.unchecked_commands.proofs.walk.push_ids.Given as goal
 
 abbrev pub invariant-loop-id : goal.invariant-loop-id
 invariant-loop-id g l =
