@@ -55,7 +55,7 @@ pub fn cg_ancestor_walk(
     if from >= commits || to >= commits {
         return refused(NO_SUCH_POSITION);
     }
-    match checked.ancestor_walk(alloc, Position(from), Position(to)) {
+    match opened.ancestor_walk(alloc, Position(from), Position(to)) {
         Ok(reached) => tell(&reached, out),
         Err(_) => refused(OUT_OF_MEMORY),
     }
@@ -94,7 +94,7 @@ pub fn cg_is_ancestor(alloc: Global, graph: CgGraph, ancestor: u32, descendant: 
     if ancestor >= commits || descendant >= commits {
         return untold(NO_SUCH_POSITION);
     }
-    match checked.is_ancestor(alloc, Position(ancestor), Position(descendant)) {
+    match opened.is_ancestor(alloc, Position(ancestor), Position(descendant)) {
         Ok(found) => CgLeads { code: 0, found },
         Err(_) => untold(OUT_OF_MEMORY),
     }
