@@ -9,8 +9,8 @@
  *   not change until it returns (a mapped file can change: see cg_open).
  * - A cg_graph is CG_CLOSED, or a copy of what cg_open, cg_open_known, cg_open_checked, cg_check or cg_check_within wrote, and
  *   none of cg_close, cg_check and cg_check_within was yet given it. All copies are one graph. Nobody looks into it or changes it.
- * - Threads: any number of calls may read one graph at a time. cg_close, or cg_check, or cg_check_within, is called once, when no
- *   call on the graph is running, and none follows.
+ * - Threads: any number of calls may read one graph at a time, and none waits for another. cg_close, or cg_check, or
+ *   cg_check_within, is called once, when no call on the graph is running, and none follows.
  * - No call keeps a pointer that it was given. No call is made from a signal handler, or in the child of a process with
  *   threads before it execs. Memory comes from malloc, realloc and free.
  * - What an out parameter holds before a call does not matter, but for the cg_graph, the cg_bytes or the cg_flag that a call hands
@@ -460,9 +460,11 @@ uint32_t cg_verify_layer(cg_graph graph, uint64_t layer, cg_layer_verdict *out);
  *   CG_OUT_OF_MEMORY; else
  *   CG_OK: `length` is the number of commits on a shortest walk, both ends included, or 0 where there is none, and `visits`
  *      that of the commits that were visited.
- * Where the code is not CG_OK, all else is 0, and nothing is written. A search takes some bytes for each commit that it reaches, and
- * once these are many, a bit for each commit of the graph. No call keeps memory for the next one, since threads share a graph;
- * cg_are_ancestors keeps it for all its pairs. */
+ * Where the code is not CG_OK, all else is 0, and nothing is written.
+ * cg_ancestor_walk and cg_is_ancestor keep the memory of a search in the graph for the next one, until the graph is closed: a bit
+ * for each commit of the graph, and 8 to 24 bytes for each commit that the largest search reached. While one thread searches with
+ * it, a call of another takes memory for itself alone, as a search within a limit does: some bytes for each commit that it
+ * reaches, and once these are many, a bit for each commit of the graph. */
 typedef struct cg_reached { uint32_t code, visits; uint64_t length; } cg_reached;
 
 /* Looks for a shortest walk along parents, and writes its positions, as many as there is room for. */
@@ -487,7 +489,7 @@ cg_leads cg_is_ancestor_within(cg_graph graph, uint32_t ancestor, uint32_t desce
 typedef struct cg_pair { uint32_t ancestor, descendant; } cg_pair;
 
 /* Asks for many pairs what cg_is_ancestor asks for one, and writes of each 1 where `ancestor` is one of `descendant`, and
- * else 0. The memory of the search is filled once for all pairs, which takes most of the time where the commits of a pair are near each other. */
+ * else 0. The memory of the search is the call's own, and is filled once for all pairs. */
 cg_answered cg_are_ancestors(cg_graph graph, const cg_pair *pairs, size_t count, uint8_t *out, size_t len);
 
 /* The merge bases of a commit and some others. On CG_OK there are `length`; `ahead` commits are those that the first leads to

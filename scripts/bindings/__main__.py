@@ -42,7 +42,7 @@ KINDS = ("sha1", "sha256")
 REFUSING = [f"-Wl,--wrap={name}" for name in ("malloc", "realloc", "free")]
 LINES = [b"", b"\n", b"a", b"a\n", b"a\r\n\nb\r", b"\r\n\r\r\nc", b"\n\n", b"ab\ncd\n\r"]
 """Texts that are cut into lines."""
-HELGRIND = ["valgrind", "-q", "--tool=helgrind", "--error-exitcode=99"]
+HELGRIND = ["valgrind", "-q", "--tool=helgrind", "--error-exitcode=99", f"--suppressions={HERE / 'helgrind.supp'}"]
 SANITIZED = "-Zsanitizer=thread -Cunsafe-allow-abi-mismatch=sanitizer"
 """Flags of a nightly Rust compiler. Its standard library is not built with them."""
 CALLING_ALL = ("ask.c", "large.c", "memory.c", "threads.c")
@@ -264,6 +264,7 @@ def refused_and_shared(name, compiler, archive, scratch, graphs):
             expect(f"{title}: each allocation is refused in turn", calls.pop("reading", None) == "0", done)
             expect(f"{title}: bytes that are no layer are not copied", calls.pop("open_wrong", None) == "0", done)
             expect(f"{title}: commits with a null id are refused before any memory is asked for", calls.pop("write_null", None) == "0", done)
+            expect(f"{title}: a query made again asks for no memory", calls.pop("ancestor_again", None) == "0", done)
             expect(f"{title}: each call that allocates is refused", calls and all(int(n) > 0 for n in calls.values()), done)
             expect(f"{title}: many pairs are searched with one memory", calls.get("one_pair") == calls.get("three_pairs"), done)
         apart, alike = (run(program, "check", "-", *real.fronted(scratch / compiler, kind, it)) for it in (b"\x11\x22", b"\x11\x11"))

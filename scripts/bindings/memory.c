@@ -16,7 +16,13 @@ enum { NONE = -1 };
 static long left = NONE, blocks;
 static bool refused;
 
+/* What is done once, while a call asks for memory. */
+static void (*meanwhile)(void);
+
 static bool may_allocate(void) {
+    void (*act)(void) = meanwhile;
+    meanwhile = NULL;
+    if (act) act();
     if (left == 0) {
         left = NONE;
         refused = true;
@@ -136,11 +142,64 @@ static outcome verify_layer(void) {
     return found == NO_MEMORY && (!silent || told.position || told.byte) ? WRONG : found;
 }
 
-static outcome walk(void) {
+/* A query of a graph that is opened for it, without refusals, since a graph keeps the memory of its queries. Where memory ran out, the
+ * same graph answers the next time. */
+static outcome on_a_new_graph(outcome (*query)(void)) {
+    cg_graph other = graph;
+    long later = left;
+    left = NONE;
+    graph = CG_CLOSED;
+    if (cg_open_checked(files, layers, false, &verdict, counts, 8, &graph).code) return WRONG;
+    left = later;
+    outcome found = query();
+    left = NONE;
+    if (found == NO_MEMORY && query() != DONE) found = WRONG;
+    cg_close(graph);
+    graph = other;
+    return found;
+}
+
+static outcome look_for_walk(void) {
     memset(out, OTHER, sizeof out);
     outcome found = outcome_of(cg_ancestor_walk(graph, from, to, out, ROOM).code);
     return found == NO_MEMORY && !unwritten(out, sizeof out) ? WRONG : found;
 }
+
+static outcome look_for_ancestor(void) {
+    cg_leads leads = cg_is_ancestor(graph, to, from);
+    return leads.code == CG_OK && !leads.found ? WRONG : outcome_of(leads.code);
+}
+
+static outcome walk(void) { return on_a_new_graph(look_for_walk); }
+static outcome ancestor(void) { return on_a_new_graph(look_for_ancestor); }
+
+/* A query made a second time: the graph has its memory. */
+static outcome look_again(void) {
+    long later = left;
+    left = NONE;
+    if (look_for_ancestor() != DONE) return WRONG;
+    left = later;
+    return look_for_ancestor();
+}
+
+static outcome ancestor_again(void) { return on_a_new_graph(look_again); }
+
+/* A query that is made while another one is under way and asks for memory, as another thread makes it: it finds the memory of the
+ * graph in use. */
+static outcome within_walk;
+
+static void look_meanwhile(void) { within_walk = look_for_ancestor(); }
+
+static outcome look_for_both(void) {
+    within_walk = WRONG;
+    meanwhile = look_meanwhile;
+    outcome found = look_for_walk();
+    meanwhile = NULL;
+    if (found == WRONG || within_walk == WRONG) return WRONG;
+    return found == NO_MEMORY ? found : within_walk;
+}
+
+static outcome ancestor_meanwhile(void) { return on_a_new_graph(look_for_both); }
 
 /* The searches within a limit that they do not come to. */
 static outcome within(cg_limit limit) {
@@ -166,8 +225,6 @@ static outcome with_flag(void) {
     bool raised = cg_flag_raise(flag);
     return cg_flag_free(flag) && raised ? found : WRONG;
 }
-
-static outcome ancestor(void) { return outcome_of(cg_is_ancestor(graph, to, from).code); }
 
 static outcome ancestors(void) {
     cg_pair pairs[] = { { from, to }, { to, from }, { from, from } };
@@ -333,6 +390,8 @@ int main(int argc, char **argv) {
     printf("verify_layer %ld\n", refusals("verify_layer", verify_layer));
     printf("walk %ld\n", refusals("walk", walk));
     printf("ancestor %ld\n", refusals("ancestor", ancestor));
+    printf("ancestor_again %ld\n", refusals("ancestor_again", ancestor_again));
+    printf("ancestor_meanwhile %ld\n", refusals("ancestor_meanwhile", ancestor_meanwhile));
     printf("ancestors %ld\n", refusals("ancestors", ancestors));
     printf("one_pair %ld\n", refusals("one_pair", one_pair));
     printf("three_pairs %ld\n", refusals("three_pairs", three_pairs));

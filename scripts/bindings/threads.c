@@ -5,7 +5,7 @@
 #include <stdio.h>
 #include <string.h>
 
-enum { THREADS = 4, ROOM = 64 };
+enum { THREADS = 4, ROOM = 64, TURNS = 200 };
 static cg_graph graph;
 static cg_file file;
 /* All threads raise it. */
@@ -59,6 +59,19 @@ static uint64_t stopped(void) {
     return all * 31 + cg_flag_free(other);
 }
 
+/* What many queries answer, so that those of several threads are made at a time. */
+static uint64_t asked(void) {
+    uint64_t all = 0;
+    uint32_t count = cg_num_commits(graph), out[ROOM];
+    for (uint32_t turn = 0; turn < TURNS; turn++)
+        for (uint32_t pos = 0; pos < count; pos++) {
+            cg_reached reached = cg_ancestor_walk(graph, count - 1, pos, out, ROOM);
+            all = all * 31 + reached.code + reached.length + reached.visits + cg_is_ancestor(graph, pos, count - 1).found;
+            for (uint64_t i = 0; i < reached.length && i < ROOM; i++) all = all * 31 + out[i];
+        }
+    return all;
+}
+
 /* A number made from all that a graph answers. */
 static uint64_t sum(void) {
     uint64_t all = 0;
@@ -94,7 +107,7 @@ static uint64_t sum(void) {
     }
     all = all * 31 + cg_corrected_dates(graph, dates, ROOM).length + dates[count - 1];
     all = all * 31 + cg_probe_path(graph, (const uint8_t *)"a", 1, out, 0, (uint8_t *)commits, 0).code;
-    all = all * 31 + opened() + written() + stopped();
+    all = all * 31 + asked() + opened() + written() + stopped();
     return all * 31 + cg_version() + cg_verify(graph, true, &verdict, counts, ROOM) + verdict.longest + counts[0].commits;
 }
 

@@ -77,8 +77,8 @@ pub struct Graph {
     paths: Vec<PathBuf>,
 }
 
-// SAFETY: the calls that take `&Graph` only read what it owns, and may run at a time (`commitgraph.h`, "Threads"). `drop`
-// alone writes, and has the graph to itself. Nothing in it belongs to a thread.
+// SAFETY: the calls that take `&Graph` may run at a time (`commitgraph.h`, "Threads"): they only read what it owns, but for the
+// memory of searches, which one call at a time has. `drop` has the graph to itself. Nothing in it belongs to a thread.
 unsafe impl Send for Graph {}
 unsafe impl Sync for Graph {}
 

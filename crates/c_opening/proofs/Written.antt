@@ -155,3 +155,5 @@ no_place_for xs i d room lt past =
     let so_far = first_places xs i (omega (arith, lt)) in
     sym (past_the_room (take i xs) (get_or xs i d) room (subst (λ k. length room ≤ k) (sym so_far) past))
     ∙ ap (λ ns. written ns room) (sym (take_more xs i d lt))
+
+pub ruleset position_laws = (next_position, no_place, written_length)

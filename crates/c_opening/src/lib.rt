@@ -20,6 +20,7 @@ mod open;
 mod opened;
 pub mod paths;
 pub mod read;
+mod resting;
 
 pub use check::{CgCount, CgVerdict, cg_verify};
 pub use check_within::cg_check_within;

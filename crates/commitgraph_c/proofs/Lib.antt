@@ -5,5 +5,5 @@ mod IdRoom
 mod ManyRoom
 mod OneLayer
 mod ParentRoom
-mod Positions
+mod PositionNumbers
 mod TwoRoom

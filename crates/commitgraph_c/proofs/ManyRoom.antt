@@ -39,3 +39,5 @@ module _ {X : Type 0} (Answers : X → ℕ → Type 0) (asked : List X) where
         rest = λ j le. let apart : j ≢ i = omega arith in
             set_elsewhere now i j answer apart ∙ before.rest j (omega (arith, le));
       }
+
+pub ruleset answer_laws = (none_answered, next_answered)

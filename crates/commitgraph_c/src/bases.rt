@@ -1,19 +1,18 @@
 //! Merge bases, and how far commits have come apart, in a graph that was checked.
 
-ghost use Rattle.std.specs.Prelude.{◌≡◌, ◌≢◌, ◌↔◌, ◌<◌, ◌≤◌, ◌⊎◌, false, All, Any, IfOk};
-ghost use Rattle.std.specs.Prelude.{IsSomeAnd, IsTrue, None};
+ghost use Rattle.std.specs.Prelude.{◌≡◌, ◌≢◌, ◌↔◌, ◌<◌, ◌≤◌, ◌⊎◌, false, All, Any, IsSomeAnd};
+ghost use Rattle.std.specs.Prelude.{None};
 ghost use Rattle.gix_commitgraph.specs.Graph.{total};
-ghost use Rattle.commit_search.specs.Positions.{numbers_of};
 ghost use Rattle.commitgraph_c.specs.QueryAnswers.{IsChecked, TellsBases, TellsComparison};
 ghost use Rattle.commitgraph_c.specs.QueryAnswers.{TellsNoBases};
 ghost use Rattle.c_opening.specs.Codes.{closed_graph, no_such_position, not_checked};
 
-use crate::query::write_positions;
+use crate::positions::{are_below, positions_of, write_positions};
 use c_opening::CgGraph;
 use c_opening::codes::{CLOSED_GRAPH, NO_SUCH_POSITION, NOT_CHECKED, OUT_OF_MEMORY};
 use gix_commitgraph::Position;
 use graph_history::{Checked, Comparison};
-use std::alloc::{AllocError, Global};
+use std::alloc::Global;
 
 /// The merge bases of a commit and some others, and how far they have come apart.
 #[repr(C)]
@@ -67,25 +66,6 @@ pub fn cg_merge_bases(
         Ok(comparison) => tell(&comparison, out),
         Err(_) => refused(OUT_OF_MEMORY),
     }
-}
-
-/// Whether all numbers are below a limit.
-pub(crate) fn are_below(numbers: &[u32], limit: u32) -> bool
-    ensures below { IsTrue result → All (λ number. number < limit) numbers.now }
-    ensures not_below { result ≡ false → Any (λ number. limit ≤ number) numbers.now }
-{
-    numbers.iter().all(|number| *number < limit)
-}
-
-/// The positions of these numbers, if there is memory.
-pub(crate) fn positions_of(alloc: Global, numbers: &[u32]) -> Result<Vec<Position>, AllocError>
-    ensures { IfOk result (λ found. numbers_of found.items ≡ numbers.now) }
-{
-    let mut found = Vec::with_capacity(alloc, numbers.len())?;
-    for number in numbers {
-        found.push(Position(*number))?;
-    }
-    Ok(found)
 }
 
 /// Tells a comparison, and writes the positions of the merge bases.

@@ -19,6 +19,7 @@ mod lookups;
 mod matched;
 mod pairs;
 mod parents;
+mod positions;
 mod probes;
 mod query;
 mod version;

@@ -40,7 +40,7 @@ pub fn cg_lookup_all(graph: CgGraph, ids: &[u8], size: usize, out: &mut [u32]) -
 }
 
 /// Looks up ids, one after another.
-#[tactic(auto, using(crate::proofs::ManyRoom::none_answered, crate::proofs::ManyRoom::next_answered))]
+#[tactic(auto, using(crate::proofs::ManyRoom::answer_laws))]
 fn look_up_all(opened: &Opened, ids: &[u8], size: usize, out: &mut [u32]) -> u64
     requires { IsTrue (is_id_len size) }
     ensures count { result ≡ length (pieces size ids.now) }

@@ -74,7 +74,7 @@ pub fn cg_are_ancestors(
 }
 
 /// Answers pairs of commits of a right graph, one after another, by one searcher.
-#[tactic(auto, using(crate::proofs::ManyRoom::none_answered, crate::proofs::ManyRoom::next_answered))]
+#[tactic(auto, using(crate::proofs::ManyRoom::answer_laws))]
 fn answer_pairs(alloc: Global, graph: &Checked<'_>, pairs: &[CgPair], out: &mut [u8]) -> CgAnswered
     ensures answers { AnswersFirst (AnswersPair graph.now.layers) pairs.now result.answered out.old
         out.new }

@@ -79,7 +79,7 @@ pub fn cg_probe_path(
 }
 
 /// Asks the filters of these commits for a path, one after another.
-#[tactic(auto, using(crate::proofs::ManyRoom::none_answered, crate::proofs::ManyRoom::next_answered))]
+#[tactic(auto, using(crate::proofs::ManyRoom::answer_laws))]
 fn probe_all(
     filters: &GraphFilters<'_>,
     commits: u32,

@@ -4,11 +4,10 @@ ghost use Rattle.std.specs.Prelude.{◌≡◌, ◌≢◌, ◌↔◌, ◌≤◌, 
 ghost use Rattle.graph_walks.specs.Walks.{Reaches};
 ghost use Rattle.graph_format.specs.StoredHistory.{history_of};
 ghost use Rattle.gix_commitgraph.specs.Graph.{total};
-ghost use Rattle.commit_search.specs.Positions.{numbers_of};
 ghost use Rattle.commitgraph_c.specs.QueryAnswers.{IsChecked, TellsAnswer, TellsWalk};
-ghost use Rattle.c_opening.specs.Answers.{written};
 ghost use Rattle.c_opening.specs.Codes.{closed_graph, no_such_position, not_checked};
 
+use crate::positions::write_positions;
 use c_opening::CgGraph;
 use c_opening::codes::{CLOSED_GRAPH, NO_SUCH_POSITION, NOT_CHECKED, OUT_OF_MEMORY};
 use gix_commitgraph::Position;
@@ -56,7 +55,7 @@ pub fn cg_ancestor_walk(
     if from >= commits || to >= commits {
         return refused(NO_SUCH_POSITION);
     }
-    match checked.ancestor_walk(alloc, Position(from), Position(to)) {
+    match opened.ancestor_walk(alloc, Position(from), Position(to)) {
         Ok(reached) => tell(&reached, out),
         Err(_) => refused(OUT_OF_MEMORY),
     }
@@ -95,7 +94,7 @@ pub fn cg_is_ancestor(alloc: Global, graph: CgGraph, ancestor: u32, descendant: 
     if ancestor >= commits || descendant >= commits {
         return untold(NO_SUCH_POSITION);
     }
-    match checked.is_ancestor(alloc, Position(ancestor), Position(descendant)) {
+    match opened.is_ancestor(alloc, Position(ancestor), Position(descendant)) {
         Ok(found) => CgLeads { code: 0, found },
         Err(_) => untold(OUT_OF_MEMORY),
     }
@@ -117,18 +116,6 @@ pub(crate) fn tell(reached: &Reached, out: &mut [u32]) -> CgReached
         code: 0,
         visits: reached.visits,
         length,
-    }
-}
-
-/// Writes positions, as many as there is room for.
-#[tactic(auto, using(c_opening::proofs::Written::next_position, c_opening::proofs::Written::no_place, c_opening::proofs::Written::written_length))]
-pub(crate) fn write_positions(positions: &[Position], out: &mut [u32])
-    ensures { out.new ≡ written (numbers_of positions.now) out.old }
-{
-    for place in 0..positions.len() {
-        if place < out.len() {
-            out[place] = positions[place].0;
-        }
     }
 }
 

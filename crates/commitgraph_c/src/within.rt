@@ -11,7 +11,8 @@ ghost use Rattle.commitgraph_c.specs.QueryAnswers.{TellsNoBases};
 ghost use Rattle.c_opening.specs.Codes.{closed_graph, no_such_position, not_checked, stopped};
 ghost use Rattle.c_opening.specs.ToldLimit.{told_bound};
 
-use crate::bases::{self, CgBases, are_below, positions_of};
+use crate::bases::{self, CgBases};
+use crate::positions::{are_below, positions_of};
 use crate::query::{self, CgLeads, CgReached};
 use c_opening::codes::{CLOSED_GRAPH, NO_SUCH_POSITION, NOT_CHECKED, OUT_OF_MEMORY, STOPPED};
 use c_opening::{CgGraph, CgLimit};

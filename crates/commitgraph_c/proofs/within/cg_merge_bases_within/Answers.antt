@@ -3,7 +3,7 @@ use Rattle.graph_format.specs.Layer.{Layer}
 use Rattle.gix_commitgraph.specs.Graph.{total}
 use Rattle.commit_search.specs.Positions.{numbers_of}
 use Rattle.graph_history.specs.GraphComparison.{IsComparisonOf}
-use Rattle.commitgraph_c.proofs.Positions.{all_below}
+use Rattle.commitgraph_c.proofs.PositionNumbers.{all_below}
 use Rattle.commitgraph_c.proofs.within.cg_merge_bases_within.Goals as goal
 
 pub compare_within-requires-clause-others : goal.compare_within-requires-clause-others
