@@ -4,8 +4,10 @@ ghost use Rattle.std.specs.Prelude.{◌≡◌, ◌≢◌, ◌↔◌, ◌≤◌, 
 ghost use Rattle.graph_walks.specs.Walks.{Reaches};
 ghost use Rattle.graph_format.specs.StoredHistory.{history_of};
 ghost use Rattle.gix_commitgraph.specs.Graph.{total};
+ghost use Rattle.commit_search.specs.WalkAnswer.{MayLead};
 ghost use Rattle.commitgraph_c.specs.QueryAnswers.{IsChecked, TellsAnswer, TellsWalk};
 ghost use Rattle.c_opening.specs.Codes.{closed_graph, no_such_position, not_checked};
+ghost use Rattle.c_opening.specs.Codes.{out_of_memory};
 
 use crate::positions::write_positions;
 use c_opening::CgGraph;
@@ -41,6 +43,8 @@ pub fn cg_ancestor_walk(
     ensures unchecked { result.code ≡ not_checked ↔ IsSomeAnd graph.address.held (λ held.
         held.1 ≡ false) }
     ensures closed { result.code ≡ closed_graph ↔ graph.address.held ≡ None }
+    ensures memory { result.code ≡ out_of_memory → IsChecked graph.address.held (λ layers.
+        (from ≡ to) ⊎ MayLead (history_of layers) from to) }
     ensures codes { result.code ≤ 4 }
     ensures kept { result.code ≢ 0 → out.new ≡ out.old }
     ensures nothing { result.code ≢ 0 → (result.visits ≡ 0) × (result.length ≡ 0) }
@@ -81,6 +85,8 @@ pub fn cg_is_ancestor(alloc: Global, graph: CgGraph, ancestor: u32, descendant: 
     ensures unchecked { result.code ≡ not_checked ↔ IsSomeAnd graph.address.held (λ held.
         held.1 ≡ false) }
     ensures closed { result.code ≡ closed_graph ↔ graph.address.held ≡ None }
+    ensures memory { result.code ≡ out_of_memory → IsChecked graph.address.held (λ layers.
+        (descendant ≢ ancestor) × MayLead (history_of layers) descendant ancestor) }
     ensures codes { result.code ≤ 4 }
     ensures nothing { result.code ≢ 0 → result.found ≡ false }
 {

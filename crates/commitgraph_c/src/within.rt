@@ -5,10 +5,12 @@ ghost use Rattle.std.specs.Prelude.{IsTrue, None};
 ghost use Rattle.graph_walks.specs.Walks.{Reaches};
 ghost use Rattle.graph_format.specs.StoredHistory.{history_of};
 ghost use Rattle.gix_commitgraph.specs.Graph.{total};
+ghost use Rattle.commit_search.specs.WalkAnswer.{MayLead};
 ghost use Rattle.graph_history.specs.Limits.{MayBeStopped};
 ghost use Rattle.commitgraph_c.specs.QueryAnswers.{IsChecked, TellsAnswer, TellsBases};
 ghost use Rattle.commitgraph_c.specs.QueryAnswers.{TellsNoBases};
 ghost use Rattle.c_opening.specs.Codes.{closed_graph, no_such_position, not_checked, stopped};
+ghost use Rattle.c_opening.specs.Codes.{out_of_memory};
 ghost use Rattle.c_opening.specs.ToldLimit.{told_bound};
 
 use crate::bases::{self, CgBases};
@@ -39,6 +41,8 @@ pub fn cg_ancestor_walk_within(
     ensures unchecked { result.code ≡ not_checked ↔ IsSomeAnd graph.address.held (λ held.
         held.1 ≡ false) }
     ensures closed { result.code ≡ closed_graph ↔ graph.address.held ≡ None }
+    ensures memory { result.code ≡ out_of_memory → IsChecked graph.address.held (λ layers.
+        (from ≡ to) ⊎ MayLead (history_of layers) from to) }
     ensures codes { (result.code ≤ 4) ⊎ (result.code ≡ stopped) }
     ensures kept { result.code ≢ 0 → out.new ≡ out.old }
     ensures nothing { result.code ≢ 0 → (result.visits ≡ 0) × (result.length ≡ 0) }
@@ -78,6 +82,8 @@ pub fn cg_is_ancestor_within(
     ensures unchecked { result.code ≡ not_checked ↔ IsSomeAnd graph.address.held (λ held.
         held.1 ≡ false) }
     ensures closed { result.code ≡ closed_graph ↔ graph.address.held ≡ None }
+    ensures memory { result.code ≡ out_of_memory → IsChecked graph.address.held (λ layers.
+        (descendant ≢ ancestor) × MayLead (history_of layers) descendant ancestor) }
     ensures codes { (result.code ≤ 4) ⊎ (result.code ≡ stopped) }
     ensures nothing { result.code ≢ 0 → result.found ≡ false }
 {
