@@ -1,4 +1,5 @@
--- what a query for a walk along parents, from one commit of a history to another, answers
+-- what a query for a walk along parents, from one commit of a history to another, answers; where generation numbers are too low
+-- the search stops, as Git's commit-graph design says
 use Rattle.std.specs.Prelude.{◌≡◌, ◌≢◌, ◌⊎◌, ℕ, ◌<◌, ◌≤◌, List, length, IfSome, IfNone}
 use Rattle.graph_walks.specs.declared.TheConstants.{GENERATION_NUMBER_MAX}
 use Rattle.graph_walks.specs.History.{Node, generation_at}

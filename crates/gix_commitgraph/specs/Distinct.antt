@@ -1,4 +1,5 @@
--- when each id of a graph stands at one position alone, and what follows for its check and its lookups
+-- when each id of a graph stands at one position alone, and what follows for its check and its lookups; Git's format does not ask
+-- it of ids in different layers
 use Rattle.std.specs.Prelude.{◌≡◌, ◌↔◌, ◌<◌, ℕ, List, Option, Some, IsTrue, slice_get}
 use Rattle.graph_format.specs.Layer.{Layer}
 use Rattle.gix_commitgraph.specs.Graph.{graph_ids, total}

@@ -50,7 +50,7 @@ pub record IsMismatch (layers : List Layer) (layer : ℕ) : Type 0 where
   pub differs : kind_at layers layer ≢ kind_at layers (layer - 1)
   pub least : (i : ℕ) → 0 < i → i < layer → kind_at layers i ≡ kind_at layers (i - 1)
 
--- what each refusal says; want of memory is none
+-- what each refusal says; out of memory is none of them
 abbrev pub IsRefusal : List Layer → GraphError → Type 0
 IsRefusal layers NoFiles = layers ≡ []
 IsRefusal layers (TooManyCommits commits) = (commits ≡ total layers) × (MAX_COMMITS < total layers)

@@ -1,4 +1,4 @@
--- what the lookup of an id in a graph answers
+-- what the lookup of an id in a graph answers ("OID Lookup"; "Base Graphs List" on the positions of a chain)
 use Rattle.std.specs.Prelude.{◌≡◌, ℕ, ◌+◌, List, length, position, slice_get, Option, Some, None, unwrap_or, option_map}
 use Rattle.std.specs.Prelude.{option_and_then, is_some}
 use Rattle.graph_format.specs.Layer.{Layer}

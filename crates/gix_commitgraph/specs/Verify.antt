@@ -1,4 +1,4 @@
--- what the check of a graph looks for, in its order, and what it answers
+-- what the check of a graph looks for, in an order that is this project's own, and what it answers
 use Rattle.std.specs.Prelude.{◌≡◌, ◌==◌, ◌+◌, ◌∷◌, [], ℕ, List, false, not, if◌then◌else◌, nat_lt, bytes_eq, slice_get, unwrap_or}
 use Rattle.std.specs.Prelude.{length, map, take, drop, Option, Some, None, option_map, Result, Ok, Err}
 use Rattle.std.specs.BTreeMap.{get, IsUnchanged}
@@ -31,7 +31,7 @@ abbrev pub checksum_at : List Layer → ℕ → List ℕ
 checksum_at layers j = unwrap_or (slice_get (map (λ layer. layer.checksum) layers) j) []
 
 module _ {E : Type 0} where
-  -- the base id at place j of a layer that is to be layer i: the checksum of layer j
+  -- the base id at place j of a layer that is to be layer i: the checksum of layer j ("Base Graphs List")
   abbrev pub base_refusal : List Layer → ℕ → Layer → ℕ → Option (VerifyError E)
   base_refusal layers i layer j = error.BaseId i j when not (bytes_eq (base_at layer j) (checksum_at layers j))
 

@@ -1,4 +1,4 @@
--- Digests of messages.
+-- Digests of messages, as a file ends with one of all bytes before it (gitformat-commit-graph, "TRAILER").
 use Rattle.std.specs.Prelude.{ℕ, List}
 use Rattle.sha1.specs.Sha1.{sha1}
 use Rattle.sha2.specs.Sha256.{sha256}

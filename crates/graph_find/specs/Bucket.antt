@@ -1,4 +1,4 @@
--- The ids of a bucket, as bytes that were read.
+-- The ids of a bucket, as bytes that were read ("OID Fanout", "OID Lookup").
 use Rattle.std.specs.Prelude.{◌≡◌, ℕ, ◌+◌, ◌-◌, ◌*◌, ◌<◌, ◌≤◌, List, length, slice_get, slice_range, Some}
 use Rattle.graph_format.specs.Layer.{Layer}
 use Rattle.graph_format.specs.Order.{AreAscending, IsExactFan}

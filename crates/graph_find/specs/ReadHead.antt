@@ -1,4 +1,4 @@
--- The first bytes of a file, and where its parts lie.
+-- The first bytes of a file, and where its parts lie ("HEADER", "CHUNK LOOKUP", "OID Fanout").
 use Rattle.std.specs.Prelude.{◌≡◌, ℕ, ◌+◌, ◌*◌, ◌≤◌, List, length, slice_index, Option}
 use Rattle.std.specs.Option.{ForSome, IsSomeAnd}
 use Rattle.gix_hash_core.specs.Kind.{id_len}

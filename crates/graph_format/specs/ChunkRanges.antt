@@ -1,4 +1,4 @@
--- where the chunks of a file lie
+-- where the chunks of a file lie ("CHUNK LOOKUP")
 use Rattle.std.specs.Prelude.{◌≡◌, ℕ, ◌+◌, ◌-◌, ◌*◌, ◌<◌, ◌≤◌, List, length, slice_range, slice_get, Option, Some, None}
 use Rattle.graph_format.specs.Format.{chunk_of, chunk_range_of, fan_id, ids_id, records_id, edges_id, bases_id}
 use Rattle.graph_format.specs.declared.chunks.ChunkRange.{ChunkRange}

@@ -1,4 +1,4 @@
--- what the vectors of decoded records hold
+-- what the vectors of decoded records hold ("Commit Data")
 use Rattle.std.specs.Prelude.{◌≡◌, ℕ, List, map}
 use Rattle.graph_format.specs.Format.{Record}
 use Rattle.graph_format.specs.declared.records.Records.{Records}

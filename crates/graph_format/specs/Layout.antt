@@ -1,4 +1,4 @@
--- what a file's layout is
+-- what a file's layout is ("HEADER", "CHUNK LOOKUP", "OID Fanout", "TRAILER")
 use Rattle.std.specs.Prelude.{◌≡◌, ℕ, List, slice_index, Some, None}
 use Rattle.gix_hash_core.specs.Kind.{kind_of}
 use Rattle.graph_format.specs.Format.{table_of, fan_of, commits_of}

@@ -15,7 +15,7 @@ offset_of offsets overflow p =
     else if nat_lt (word_in offsets p - 2 ^ 31) (length overflow / 8) then Some (long_in overflow (word_in offsets p - 2 ^ 31))
     else None
 
--- its corrected date: its time and its offset together
+-- its corrected date: its time and its offset together, and its time alone where it has no offset
 abbrev pub date_of : List ℕ → List ℕ → List ℕ → ℕ → ℕ
 date_of offsets overflow times p = slice_index times p + unwrap_or (offset_of offsets overflow p) 0
 

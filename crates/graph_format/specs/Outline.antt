@@ -1,4 +1,4 @@
--- what the header and the table of chunks say
+-- what the header and the table of chunks say ("HEADER", "CHUNK LOOKUP", "TRAILER")
 use Rattle.std.specs.Prelude.{◌≡◌, ◌+◌, ◌≤◌, ℕ, List, length, slice_index, Some}
 use Rattle.gix_hash_core.specs.Kind.{kind_of}
 use Rattle.graph_format.specs.Format.{kind_in, table_of}

@@ -1,4 +1,4 @@
--- what the check of one layer looks for, in its order, and what it answers
+-- what the check of one layer looks for, in an order that is this project's own, and what it answers
 use Rattle.std.specs.Prelude.{◌≡◌, ◌∷◌, [], ℕ, List, length, nat_eq, Option, option_map}
 use Rattle.std.specs.HashMap.{get, IsUnchanged}
 use Rattle.std.specs.List.{flat_map, range_with_len}

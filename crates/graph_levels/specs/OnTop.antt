@@ -1,5 +1,6 @@
 -- New commits on top of others: positions count the others first, and then the new ones. What is said here holds in each history
--- that has these commits on top, whatever else it has.
+-- that has these commits on top, whatever else it has. ("topological level" and "corrected commit date" in Git's commit-graph
+-- design.)
 use Rattle.std.specs.Prelude.{◌≡◌, ℕ, ◌+◌, ◌<◌, ◌≤◌, ◌^◌, List, length, slice_index, slice_index_or, All}
 use Rattle.graph_walks.specs.History.{Node, parents_at, generation_at}
 use Rattle.graph_walks.specs.Generations.{expected_generation}

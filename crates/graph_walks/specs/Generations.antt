@@ -1,4 +1,4 @@
--- the check of a generation number that looks at a commit and its parents alone
+-- Git's topological level of a commit, by the rule of Git's commit-graph design that looks at the commit and its parents alone.
 use Rattle.std.specs.Prelude.{◌≡◌, ℕ, ◌+◌, ◌-◌, ◌<◌, List, Option, Some, None, min, map, length, nat_lt, if◌then◌else◌}
 use Rattle.graph_walks.specs.Counts.{greatest}
 use Rattle.graph_walks.specs.History.{Node, generation_at, parents_at}

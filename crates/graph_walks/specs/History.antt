@@ -1,4 +1,5 @@
--- A history: commits by position, each with its generation number and the positions of its parents, first parent first.
+-- A history: commits by position, each with its generation number and the positions of its parents, first parent first ("Commit
+-- Data" of Git's commit-graph format).
 use Rattle.std.specs.Prelude.{ℕ, ◌<◌, List, [], map, length, slice_get, Contains}
 use Rattle.std.specs.Option.{option_map_or}
 
