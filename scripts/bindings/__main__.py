@@ -4,7 +4,7 @@
 It builds the static library, where it is not built, over what `rt ci` left, as scripts/library hands it out. What C and
 Rust list and count is compared with what the program at the path GRAPHTOOL does, and what they
 tell of dates and filters also with what the one at HISTORYTOOL does. Where one is not given, or a compiler or a tool is missing,
-one line says what is left out.
+one line says what is left out. Where HISTORYTOOL is `-`, its path comes as a line of standard input: what needs it is done last.
 
 `python3 scripts/bindings --library LOG` only builds the static library, beside an `rt ci` that writes LOG, as soon as that has
 proved the library for C.
@@ -31,6 +31,7 @@ import time
 
 sys.path.insert(0, str(pathlib.Path(__file__).resolve().parent.parent))
 
+import later
 import proving
 
 TOP = pathlib.Path(__file__).resolve().parent.parent.parent
@@ -51,7 +52,10 @@ IN_HEADER = {"cg_strerror", "cg_advice", "cg_closed", "cg_no_bytes", "cg_no_flag
 """Functions that the header has whole."""
 STRICT = ["-D_GNU_SOURCE", "-Wall", "-Wextra", "-Wpedantic", "-Werror"]
 COUNTING = threading.Lock()
+LATER = later.Later()
 passed = failed = 0
+LAST = []
+"""The calls that need `historytool`."""
 
 
 def run(*words, text=True, **options):
@@ -470,7 +474,7 @@ def rust(environment, archive, scratch, graphs):
         commits = git(where, "rev-list", "main").split()
         same_as_program(f"Rust, {kind}, chain", built / "ask", where / ".git/objects/info/commit-graphs", commits)
     same_as_real("Rust", built / "ask", scratch, folders=True)
-    same_chunks("Rust", built / "ask", scratch, folders=True)
+    LAST.append(functools.partial(same_chunks, "Rust", built / "ask", scratch, folders=True))
     short_of_memory(built / "ask", scratch)
     names_of_the_original(crate / "gix-commitgraph", environment, scratch)
 
@@ -527,7 +531,7 @@ def c(compiler, archive, scratch, graphs):
             chained(f"{name}, {kind}", program, scratch, kind)
         if flags:
             same_as_real(name, program, scratch)
-            same_chunks(name, program, scratch)
+            LAST.append(functools.partial(same_chunks, name, program, scratch))
         elif present("valgrind", "valgrind"):
             nothing_left(name, program, scratch, graphs)
     fields(compiler, compiler, archive, scratch)
@@ -714,6 +718,15 @@ def together(calls):
             done.result()
 
 
+def with_historytool():
+    """Makes the calls that need `historytool`, once its path is known."""
+    global HISTORYTOOL
+    HISTORYTOOL = LATER.path(HISTORYTOOL)
+    if not HISTORYTOOL:
+        print("what historytool says of dates and filters: left out, since no HISTORYTOOL is given")
+    together(LAST)
+
+
 def main():
     if sys.argv[1:2] == ["--library"]:
         if wait_for_crates(pathlib.Path(sys.argv[2])):
@@ -723,8 +736,6 @@ def main():
     exports(archive)
     if not GRAPHTOOL:
         print("what graphtool lists and counts: left out, since no GRAPHTOOL is given")
-    if not HISTORYTOOL:
-        print("what historytool says of dates and filters: left out, since no HISTORYTOOL is given")
     with tempfile.TemporaryDirectory() as folder:
         scratch = pathlib.Path(folder)
         (scratch / "real").mkdir()
@@ -738,6 +749,7 @@ def main():
             real.damaged(scratch / "real", kind)
             chunked.graphs(scratch / "chunked", kind)
         together(parts(archive, scratch, graphs))
+        with_historytool()
     print(f"{passed} passed, {failed} failed")
     return failed != 0
 

@@ -2,7 +2,8 @@
 
 usage: python3 scripts/real_data GRAPHTOOL HISTORYTOOL TEST_FILTERS [every-value] [NAME..]
 
-NAME is a file of the folder `checks`, such as show_checks; without one, all are run that have checks:
+NAME is a file of the folder `checks`, such as show_checks; without one, all are run that have checks. A program whose path is `-`
+is still being built: its path comes as a line of standard input, and the checks that need GRAPHTOOL alone begin before.
 
 - `list`: the listing of each layer, and the refusal of damaged ones.
 - `verify`: what it counts in each file and chain, and what it finds wrong with damaged ones, beside
@@ -82,6 +83,7 @@ from checks import rows
 from checks.program import LINES, FilterProgram, HistoryProgram, Program
 from expected.differences import Differences
 from histories.repository import ID_LENGTH, Repository
+from later import Later
 from results import Results
 
 PARTS = [("check_all", None), *(("check_kind", kind) for kind in ID_LENGTH)]
@@ -93,16 +95,22 @@ LONGEST = 12
 
 def main(paths, every_value, names):
     """Runs all checks, or those of some files, on the programs at these paths, and answers the exit status."""
-    given = [os.path.abspath(path) for path in paths], every_value
     results, differences, chosen = Results(), Differences(), names or all_names()
-    parts, times = [(name, *part) for part in PARTS for name in chosen if has(name, part[0])], []
+    parts = [(name, *part) for part in PARTS for name in chosen if has(name, part[0])]
+    later, times = Later(), []
+    alone = [part for part in parts if "-" in paths[1:] and not needs_others(part)]
     with ProcessPoolExecutor() as pool:
-        for part, ended in [(part, pool.submit(run_part, *given, *part)) for part in parts]:
+        begun = [(part, begin(pool, paths, every_value, part)) for part in alone]
+        paths = [later.path(path) for path in paths]
+        if all(paths):
+            begun += [(part, begin(pool, paths, every_value, part)) for part in parts if part not in alone]
+        for part, ended in begun:
             counted, seen, lines, seconds = ended.result()
             results.add(counted)
             differences.add(seen)
             LINES.update(lines)
             times.append((seconds, "%s %s" % (part[0], part[2] or "")))
+    results.check("each program is built", None if all(paths) else "no path of it came")
     idle = sorted(set(chosen).difference(part[0] for part in parts))
     results.check("each file has checks", "none in %s" % ", ".join(idle) if idle else None)
     if not names:
@@ -121,6 +129,21 @@ def all_names():
 def has(name, function):
     """Whether a file has a function of this name."""
     return hasattr(importlib.import_module("checks." + name), function)
+
+
+def parameters(part):
+    """What a part takes."""
+    return inspect.signature(getattr(importlib.import_module("checks." + part[0]), part[1])).parameters
+
+
+def needs_others(part):
+    """Whether it takes another program than `graphtool`."""
+    return bool({"histories", "programs", "asker"}.intersection(parameters(part)))
+
+
+def begin(pool, paths, every_value, part):
+    """Has a process call the function of a part."""
+    return pool.submit(run_part, [os.path.abspath(path) for path in paths], every_value, *part)
 
 
 def run_part(paths, every_value, name, function, kind):
@@ -145,7 +168,7 @@ def run_part(paths, every_value, name, function, kind):
             "new": partial(new_repository, folder, *([kind] if kind else [])),
             "every_value": every_value,
         }
-        check(**{parameter: given[parameter] for parameter in inspect.signature(check).parameters if parameter in given})
+        check(**{parameter: given[parameter] for parameter in parameters((name, function)) if parameter in given})
     return results, differences, LINES, time.monotonic() - started
 
 
