@@ -6,7 +6,7 @@ use Rattle.std.proofs.lemmas.List.{drop_more}
 use Rattle.std.specs.List.{FoldsTo}
 use Rattle.std.proofs.lemmas.Fn.{FoldsTo-push}
 use Rattle.graph_format.specs.Points.{Point, check, call, first_some, first_fault, calls, calls_before_fault, Accepts, Passes}
-use Rattle.graph_format.specs.Points.{IsRefused, StopsAt, RunsOutOfMemory, Cause, refused, by_processor, no_memory, StopsBy}
+use Rattle.graph_format.specs.Points.{IsRefused, StopsAtCall, RunsOutOfMemory, Cause, refused, by_processor, no_memory, StopsBy}
 
 module _ {X : Type 0} where
   pub first_fault-append : (a b : List (Point X)) → first_fault a ≡ None → first_fault (a ++ b) ≡ first_fault b
@@ -77,7 +77,7 @@ module _ {F E X : Type 0} (step : F → ℕ → Result (Unit {0}) E → F → Ty
   }
 
   pub stopped_at_call : (p : ℕ) (e : E) (rest : List (Point X)) (g h : F) → step g p (Err e) h → Reaches (call p ∷ rest) g
-      → StopsAt step points f h p e
+      → StopsAtCall step points f h p e
   stopped_at_call p e rest g h called r =
       record {
         before = r.before;
@@ -131,7 +131,7 @@ module _ {F E X : Type 0} (step : F → ℕ → Result (Unit {0}) E → F → Ty
         (FoldsTo-append _ f g h (calls reached.before) (calls_before_fault part) reached.accepted r.accepted);
   }
 
-  stopped_in_part : (p : ℕ) (e : E) → StopsAt step part g h p e → StopsAt step points f h p e
+  stopped_in_part : (p : ℕ) (e : E) → StopsAtCall step part g h p e → StopsAtCall step points f h p e
   stopped_in_part p e r = record {
     before = reached.before ++ r.before;
     after = r.after ++ rest;

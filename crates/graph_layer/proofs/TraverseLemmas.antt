@@ -8,7 +8,7 @@ use Rattle.graph_format.specs.Layer.{Layer, record_at}
 use Rattle.graph_layer.specs.Commit.{commit_layer, commit_pos, commit_record, commit_parents}
 use Rattle.graph_layer.specs.Called.{CalledOn, InLayer}
 use Rattle.graph_format.specs.Parents.{parents_of}
-use Rattle.graph_format.specs.Points.{Point, check, call, Passes, IsRefused, StopsAt, StopsBy, Cause, refused}
+use Rattle.graph_format.specs.Points.{Point, check, call, Passes, IsRefused, StopsAtCall, StopsBy, Cause, refused}
 use Rattle.graph_layer.specs.Traverse.{layer_refusal, commit_refusal, parent_refusal, traverse_points_at, traverse_points}
 use Rattle.graph_layer.specs.Traverse.{traverse_cause}
 use Rattle.graph_format.specs.Faults.{layer_fault, commit_fault}
@@ -76,7 +76,7 @@ module _ {F E : Type 0} (processor : Mut F (Bor Commit × Unit {0}) (Result (Uni
     reached_call = reached_past_check _ _ f _ _ f (ap (option_map (commit_refusal {E = E} pos)) (sym right)) (reached_start _ _ f)
 
     pub stopped_by_processor : (e : E) (h : F) → CalledOn processor (InLayer layer) f pos (Err e) h
-        → StopsAt (CalledOn processor (InLayer layer)) (traverse_points_at {E = E} layer pos) f h pos e
+        → StopsAtCall (CalledOn processor (InLayer layer)) (traverse_points_at {E = E} layer pos) f h pos e
     stopped_by_processor e h called = stopped_at_call _ _ f pos e _ f h called reached_call
 
     module _ (h : F) (accepted : CalledOn processor (InLayer layer) f pos (Ok tt) h) where
