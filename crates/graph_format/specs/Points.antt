@@ -47,7 +47,7 @@ module _ {F E : Type 0} (step : F → ℕ → Result (Unit {0}) E → F → Type
 
   module _ {X : Type 0} (points : List (Point X)) (f g : F) where
     -- No point has a fault, and the processor accepted each call.
-    pub record Passes : Type 0 where
+    pub record PassesAll : Type 0 where
       pub no_fault : first_fault points ≡ None
       pub accepted : Accepts f (calls points) g
 
@@ -81,5 +81,5 @@ module _ {F E : Type 0} (step : F → ℕ → Result (Unit {0}) E → F → Type
 
     -- The answer of a check and the state in which it leaves the processor. `cause` says why an error stops it.
     abbrev pub Agrees : {T W : Type 0} → (W → Cause X E) → Result T W → Type 0
-    Agrees cause (Ok outcome) = Passes
+    Agrees cause (Ok outcome) = PassesAll
     Agrees cause (Err error) = StopsBy (cause error)

@@ -8,7 +8,7 @@ use Rattle.graph_format.specs.Layer.{Layer, record_at}
 use Rattle.graph_layer.specs.Commit.{commit_layer, commit_pos, commit_record, commit_parents}
 use Rattle.graph_layer.specs.Called.{CalledOn, InLayer}
 use Rattle.graph_format.specs.Parents.{parents_of}
-use Rattle.graph_format.specs.Points.{Point, check, call, Passes, IsRefused, StopsAtCall, StopsBy, Cause, refused}
+use Rattle.graph_format.specs.Points.{Point, check, call, PassesAll, IsRefused, StopsAtCall, StopsBy, Cause, refused}
 use Rattle.graph_layer.specs.Traverse.{layer_refusal, commit_refusal, parent_refusal, traverse_points_at, traverse_points}
 use Rattle.graph_layer.specs.Traverse.{traverse_cause}
 use Rattle.graph_format.specs.Faults.{layer_fault, commit_fault}
@@ -91,7 +91,7 @@ module _ {F E : Type 0} (processor : Mut F (Bor Commit × Unit {0}) (Result (Uni
           refused_at_check _ _ f _ _ h _ (ap (option_map (error.Parent (record { 0 = pos }))) some) reached_parents
 
       pub passed_commit : (parents_of (record_at layer pos) layer.edges).fault ≡ None
-          → Passes (CalledOn processor (InLayer layer)) (traverse_points_at {E = E} layer pos) f h
+          → PassesAll (CalledOn processor (InLayer layer)) (traverse_points_at {E = E} layer pos) f h
       passed_commit none =
           let decoded : parent_refusal {E = E} layer pos ≡ None = ap (option_map (error.Parent (record { 0 = pos }))) none in
           passed _ _ f h (reached_past_check _ _ f _ _ h decoded reached_parents)
@@ -131,7 +131,7 @@ module _ {F E : Type 0} (processor : Mut F (Bor Commit × Unit {0}) (Result (Uni
       (traverse_points {E = E} layer) f rest f) (points_from-start layer) reached
 
   pub reached_end : (pos : ℕ) (g : F) → length layer.ids ≤ pos → ReachesCommit pos g
-      → Passes (CalledOn processor (InLayer layer)) (traverse_points {E = E} layer) f g
+      → PassesAll (CalledOn processor (InLayer layer)) (traverse_points {E = E} layer) f g
   reached_end pos g past reached =
       passed _ _ f g
       (subst (λ (rest : List (Point (TraverseError E))). Reaches (CalledOn processor (InLayer layer))
@@ -155,8 +155,8 @@ module _ {F E : Type 0} (processor : Mut F (Bor Commit × Unit {0}) (Result (Uni
         (said_there commit in_layer at (λ l p. StopsBy (CalledOn processor (InLayer l)) (traverse_points_at l p) g h stop)
         stopped)
 
-    pub reached_next : Passes (CalledOn processor (InLayer (commit_layer commit)))
+    pub reached_next : PassesAll (CalledOn processor (InLayer (commit_layer commit)))
         (traverse_points_at {E = E} (commit_layer commit) (commit_pos commit)) g h → ReachesCommit (pos + 1) h
     reached_next passes = reached_past_part _ _ f (traverse_points_at layer pos) (points_from layer (pos + 1)) g h at_commit
-        (said_there commit in_layer at (λ l p. Passes (CalledOn processor (InLayer l)) (traverse_points_at {E = E} l p) g h)
+        (said_there commit in_layer at (λ l p. PassesAll (CalledOn processor (InLayer l)) (traverse_points_at {E = E} l p) g h)
         passes)

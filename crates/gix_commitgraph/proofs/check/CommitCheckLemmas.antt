@@ -12,7 +12,7 @@ use Rattle.graph_walks.specs.History.{Node, generation_at, parents_at}
 use Rattle.graph_format.specs.StoredHistory.{history_of}
 use Rattle.graph_walks.specs.Generations.{expected_generation}
 use Rattle.graph_walks.specs.Counts.{greatest}
-use Rattle.graph_format.specs.Points.{Point, check, call, first_some, refused, IsRefused, StopsAtCall, StopsBy, Passes}
+use Rattle.graph_format.specs.Points.{Point, check, call, first_some, refused, IsRefused, StopsAtCall, StopsBy, PassesAll}
 use Rattle.gix_commitgraph.specs.Verify.{commit_ids_refusal, item_refusal, parents_refusal, generation_refusal}
 use Rattle.gix_commitgraph.specs.Verify.{commit_points, cause_of}
 use Rattle.gix_commitgraph.specs.LayerSpans.{IsSpan, IsInSpan}
@@ -160,5 +160,5 @@ module _ {F E : Type 0} (step : F → ℕ → Result (Unit {0}) E → F → Type
         pub stopped_by_processor : (e : E) → step f p (Err e) g → StopsAtCall step points f g p e
         stopped_by_processor e called = stopped_at_call step points f p e [] f g called at_call
 
-        pub commit_passed : step f p (Ok tt) g → Passes step points f g
+        pub commit_passed : step f p (Ok tt) g → PassesAll step points f g
         commit_passed called = passed step points f g (reached_past_call step points f p [] f g called at_call)

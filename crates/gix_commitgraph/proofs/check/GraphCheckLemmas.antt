@@ -10,7 +10,7 @@ use Rattle.gix_chunk_core.specs.FirstFault.{◌when◌}
 use Rattle.graph_format.specs.Layer.{Layer}
 use Rattle.graph_layer.specs.Called.{CalledOn}
 use Rattle.gix_commitgraph.specs.InGraph.{InGraph}
-use Rattle.graph_format.specs.Points.{Point, Cause, StopsBy, Passes}
+use Rattle.graph_format.specs.Points.{Point, Cause, StopsBy, PassesAll}
 use Rattle.gix_commitgraph.specs.Verify.{layer_points, layer_points_from, points_from}
 use Rattle.graph_layer.specs.declared.file.commit.Commit.{Commit}
 use Rattle.gix_commitgraph.specs.declared.verify.VerifyError.{VerifyError}
@@ -61,7 +61,7 @@ module _ {F E : Type 0} (processor : Mut F (Bor Commit × Unit {0}) (Result (Uni
     stops_in_layer s r =
         stops_in_part _ _ f (layer_points options layers i layer) (layer_points_from options layers (i + 1)) g h at_layer s r
 
-    pub reached_next_layer : Passes (CalledOn processor (InGraph layers)) (layer_points {E = E} options layers i layer) g h
+    pub reached_next_layer : PassesAll (CalledOn processor (InGraph layers)) (layer_points {E = E} options layers i layer) g h
         → ReachesLayer (i + 1) h
     reached_next_layer passes =
         reached_past_part _ _ f (layer_points options layers i layer) (layer_points_from options layers (i + 1)) g h at_layer
@@ -69,7 +69,7 @@ module _ {F E : Type 0} (processor : Mut F (Bor Commit × Unit {0}) (Result (Uni
 
   -- behind the last layer the graph is passed
   pub graph_passed : (i : ℕ) (g : F) → length layers ≤ i → ReachesLayer i g
-      → Passes (CalledOn processor (InGraph layers)) (points_from {E = E} options layers first) f g
+      → PassesAll (CalledOn processor (InGraph layers)) (points_from {E = E} options layers first) f g
   graph_passed i g past reached =
       let P : List (Point (VerifyError E)) → Type 0 =
       λ rest. Reaches (CalledOn processor (InGraph layers)) (points_from {E = E} options layers first) f rest g in

@@ -16,7 +16,7 @@ use Rattle.graph_walks.specs.History.{generations}
 use Rattle.graph_format.specs.StoredHistory.{history_of}
 use Rattle.graph_walks.specs.Walks.{MatchesLongestWalk}
 use Rattle.graph_format.specs.Faults.{layer_fault, commit_fault, id_at}
-use Rattle.graph_format.specs.Points.{Point, first_fault, Passes, IsRefused}
+use Rattle.graph_format.specs.Points.{Point, first_fault, PassesAll, IsRefused}
 use Rattle.graph_walks.specs.Generations.{longest_path}
 use Rattle.gix_commitgraph.specs.Verify.{base_ids_refusal, duplicate_refusal, parents_refusal, generation_refusal, commit_points}
 use Rattle.gix_commitgraph.specs.Verify.{layer_points, points_with, graph_points, Summarizes}
@@ -239,7 +239,7 @@ module _ {F E : Type 0} (step : F → ℕ → Result (Unit {0}) E → F → Type
     (points : List (Point (VerifyError E))) (whole : first_fault points ≡ first_fault (points_with {E = E} options layers))
     (f g : F) where
   -- only a right graph passes
-  pub sound-from_passes : All IsOpened layers → Passes step points f g → IsSoundWith options layers
+  pub sound-from_passes : All IsOpened layers → PassesAll step points f g → IsSoundWith options layers
   sound-from_passes opened passes = sound_with-from_none {E = E} options layers opened (sym whole ∙ passes.no_fault)
 
   -- and a right graph is never refused
