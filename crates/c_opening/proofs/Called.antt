@@ -16,7 +16,7 @@ use Rattle.graph_format.proofs.CallRangeLemmas.{calls-range}
 use Rattle.graph_history.specs.Checked.{MayRefuseWith}
 use Rattle.graph_ancestors.specs.declared.checking.NoFault.{NoFault}
 use Rattle.gix_commitgraph.specs.Graph.{start, stop}
-use Rattle.gix_commitgraph.specs.Verify.{base_ids_refusal, commit_points, ids_refusal, item_refusal}
+use Rattle.gix_commitgraph.specs.Verify.{base_ids_refusal, commit_points, commit_ids_refusal, item_refusal}
 use Rattle.gix_commitgraph.specs.Verify.{layer_points, points_with}
 use Rattle.gix_commitgraph.specs.declared.verify.VerifyError.{VerifyError}
 use Rattle.gix_commitgraph.specs.declared.verify.VerifyError.TheVariants as error
@@ -101,7 +101,7 @@ module _ (layers : List Layer) where
   item-at p end (Err fault) = λ x h. ap (commits_before layers) (sym (same_Some _ x h))
 
   module _ (options : VerifyOptions) where
-    ids-at : (i : ℕ) (layer : Layer) (pos : ℕ) → StandsAt (start layers i + pos) (ids_refusal options layers i layer pos)
+    ids-at : (i : ℕ) (layer : Layer) (pos : ℕ) → StandsAt (start layers i + pos) (commit_ids_refusal options layers i layer pos)
     ids-at i layer pos =
         otherwise-at _ _ _ (map-at _ _ _ (λ y. refl))
         (otherwise-at _ _ _ (if-at _ options.distinct_ids _ (map-at _ _ _ (λ y. refl))) (map-at _ _ _ (λ y. refl)))

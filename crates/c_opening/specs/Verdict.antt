@@ -129,14 +129,14 @@ pub record TellsStats (layers : List Layer) (v : CgVerdict) : Type 0 where
   pub no_place : (v.position ≡ 0) × ((v.other ≡ 0) × ((v.layer ≡ 0) × (v.index ≡ 0)))
 
 -- The verdict on a graph whose check answers an error: its first fault, or that an allocation failed.
-pub record IsRefused (options : VerifyOptions) (layers : List Layer) (v : CgVerdict) : Type 0 where
+pub record TellsRefusal (options : VerifyOptions) (layers : List Layer) (v : CgVerdict) : Type 0 where
   pub error : VerifyError NoFault
   pub told : v ≡ with_calls v.called (refusal_of error)
   pub may : MayRefuseWith options layers error
 
 -- The verdict on a graph whose check answers an error within a limit: its first fault, that an allocation failed, or that it was
 -- stopped.
-pub record IsRefusedWithin (bound : Bound) (options : VerifyOptions) (layers : List Layer) (v : CgVerdict) : Type 0 where
+pub record TellsRefusalWithin (bound : Bound) (options : VerifyOptions) (layers : List Layer) (v : CgVerdict) : Type 0 where
   pub error : VerifyError Stopped
   pub told : v ≡ refusal_of error
   pub may : MayRefuseWithin bound options layers error
@@ -144,7 +144,7 @@ pub record IsRefusedWithin (bound : Bound) (options : VerifyOptions) (layers : L
 -- The verdict on a graph: the code is 0 only where it keeps what the options ask for, and else says why not.
 pub record IsVerdict (options : VerifyOptions) (layers : List Layer) (v : CgVerdict) : Type 0 where
   pub right : v.code ≡ 0 → IsSoundWith options layers × TellsStats layers v
-  pub refused : ¬ (v.code ≡ 0) → IsRefused options layers v
+  pub refused : ¬ (v.code ≡ 0) → TellsRefusal options layers v
 
 -- how many commits have a number of parents, as it is told
 abbrev pub told_count : ℕ × ℕ → CgCount
@@ -176,6 +176,6 @@ pub record TellsOutcome (outcome : Outcome) (v : CgVerdict) : Type 0 where
 pub record FailsCheck (options : VerifyOptions) (files : List CgFile) (v : CgVerdict) (e : CgError) : Type 0 where
   pub layers : List Layer
   pub opened : IsOpenedFrom files layers
-  pub refused : IsRefused options layers v
+  pub refused : TellsRefusal options layers v
   pub called : v.called ≡ 0
   pub told : e ≡ record { code = v.code; layer = 0 }

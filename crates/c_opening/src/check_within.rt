@@ -4,7 +4,7 @@ ghost use Rattle.std.specs.Prelude.{◌≡◌, ◌≢◌, ◌⊎◌, IfNone, IfS
 ghost use Rattle.gix_commitgraph.specs.Distinct.{IsSoundWith};
 ghost use Rattle.c_opening.specs.Files.{told_graph};
 ghost use Rattle.c_opening.specs.ToldLimit.{told_bound};
-ghost use Rattle.c_opening.specs.Verdict.{IsRefusedWithin, TellsCounts, TellsStats};
+ghost use Rattle.c_opening.specs.Verdict.{TellsRefusalWithin, TellsCounts, TellsStats};
 ghost use Rattle.c_opening.specs.Verdict.{closed_verdict, options_of, told_unopened};
 
 use crate::check::{CgCount, CgVerdict, refused, wrong};
@@ -36,7 +36,7 @@ pub fn cg_check_within(
     ensures verdict { result ≡ 0 → IsSomeAnd graph.address.held (λ was.
         TellsStats was.0 verdict.new × TellsCounts was.0 verdict.new counts.old counts.new) }
     ensures refused { result ≢ 0 → IfSome graph.address.held (λ was.
-        IsRefusedWithin (told_bound limit) (options_of distinct_ids) was.0 verdict.new
+        TellsRefusalWithin (told_bound limit) (options_of distinct_ids) was.0 verdict.new
         ⊎ (verdict.new ≡ told_unopened (told_graph GraphError.OutOfMemory))) }
     ensures closed { IfNone graph.address.held (verdict.new ≡ closed_verdict) }
     ensures kept { result ≢ 0 → (out.new ≡ out.old) × (counts.new ≡ counts.old) }

@@ -11,7 +11,7 @@ ghost use Rattle.gix_commitgraph.specs.Distinct.{IsSoundWith};
 ghost use Rattle.c_opening.specs.Files.{IsOpenedFrom, RefusesFile, RefusesFiles};
 ghost use Rattle.c_opening.specs.Files.{no_error, told_file, told_graph};
 ghost use Rattle.c_opening.specs.Verdict.{FailsCheck, TellsCounts, TellsStats, options_of};
-ghost use Rattle.c_opening.specs.Verdict.{IsRefused, closed_verdict, told_unopened};
+ghost use Rattle.c_opening.specs.Verdict.{TellsRefusal, closed_verdict, told_unopened};
 
 use crate::check::{CgCount, CgVerdict, refused, right, wrong};
 use crate::codes::{CLOSED_GRAPH, PATH_NOT_UTF8, file_code, graph_code};
@@ -123,7 +123,7 @@ pub fn cg_check(
     ensures verdict { result ≡ 0 → IsSomeAnd graph.address.held (λ was.
         TellsStats was.0 verdict.new × TellsCounts was.0 verdict.new counts.old counts.new) }
     ensures refused { result ≢ 0 → IfSome graph.address.held (λ was.
-        IsRefused (options_of distinct_ids) was.0 verdict.new
+        TellsRefusal (options_of distinct_ids) was.0 verdict.new
         ⊎ (verdict.new ≡ told_unopened (told_graph GraphError.OutOfMemory))) }
     ensures closed { IfNone graph.address.held (verdict.new ≡ closed_verdict) }
     ensures kept { result ≢ 0 → (out.new ≡ out.old) × (counts.new ≡ counts.old) }

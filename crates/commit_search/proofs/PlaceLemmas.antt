@@ -3,7 +3,7 @@ use Rattle.std.proofs.Common.{◌≡◌, ◌⊎◌, ℕ, suc, zero, ◌+◌, ◌
 use Rattle.std.proofs.Common.{sym, ap, ◌∙◌, subst, inl, inr, ⊎_elim, arith}
 use Rattle.std.proofs.lemmas.Bool.{cases_lt}
 use Rattle.std.proofs.lemmas.List.{length_push, take_more, length-take-le}
-use Rattle.commit_search.specs.HashTable.{StandsAt, AreListed, Puts}
+use Rattle.commit_search.specs.HashTable.{StandsAt, HasPlacesOf, Puts}
 use Rattle.commit_search.proofs.HashTableLemmas.{same_len, stands_kept, stands_new, within_new}
 
 -- The places of a list and of one more.
@@ -29,8 +29,8 @@ place_cases xs x i lt =
 
 -- the place of a number is put into an empty slot
 module _ (old new : List ℕ) (n p : ℕ) (puts : Puts old new n p) where
-  pub listed_put : (numbers : List ℕ) (m : ℕ) → m ≡ n → p ≡ length numbers → AreListed old numbers
-      → AreListed new (numbers ++ m ∷ [])
+  pub listed_put : (numbers : List ℕ) (m : ℕ) → m ≡ n → p ≡ length numbers → HasPlacesOf old numbers
+      → HasPlacesOf new (numbers ++ m ∷ [])
   listed_put numbers m same place listed = record {
     few = omega (arith, listed.few, same_len old new n p puts);
     within = λ i.
@@ -51,8 +51,8 @@ module _ (old new : List ℕ) (n p : ℕ) (puts : Puts old new n p) where
   }
 
   -- of a list of numbers, those before a place stand in the table, and then that one does
-  pub listed_more : (numbers : List ℕ) → p < length numbers → get_or numbers p 0 ≡ n → AreListed old (take p numbers)
-      → AreListed new (take (p + 1) numbers)
+  pub listed_more : (numbers : List ℕ) → p < length numbers → get_or numbers p 0 ≡ n → HasPlacesOf old (take p numbers)
+      → HasPlacesOf new (take (p + 1) numbers)
   listed_more numbers lt same listed =
-      subst (AreListed new) (sym (take_more numbers p 0 lt))
+      subst (HasPlacesOf new) (sym (take_more numbers p 0 lt))
       (listed_put (take p numbers) (get_or numbers p 0) same (sym (length-take-le p numbers (omega (arith, lt)))) listed)

@@ -7,7 +7,7 @@ use Rattle.graph_walks.specs.History.{IsParent, generation_at}
 use Rattle.commit_search.specs.SearchState.{SearchState}
 use Rattle.commit_search.specs.Marks.{Marked, marked_at}
 use Rattle.commit_search.specs.Queue.{IsQueue, IsQueueOf, IsQueued, Extends, QueuesParents, commit_in}
-use Rattle.commit_search.specs.Search.{queued_by, Keeps, Leads, AreSoMany, IsSearching, IsEnqueued}
+use Rattle.commit_search.specs.Search.{queued_by, MayBeOfUse, Leads, AreSoMany, IsSearching, IsEnqueued}
 use Rattle.commit_search.specs.Search.{GoesOn, IsListRead, AreRead}
 use Rattle.commit_search.specs.Source.{Told, FieldNames, AreFieldsTold, AreFieldsRead, IsFieldRead}
 use Rattle.commit_search.proofs.ListLemmas.{read_extends}
@@ -38,13 +38,13 @@ module _ (b d : SearchState) (least : d.least ≡ b.least) (reached : d.reached 
 
 -- the search begins at one commit
 pub searching_begins : (count from : ℕ) (says : Told → Type 0) (s : SearchState) → count < 2 ^ 32 → count ≤ s.reached.bound
-    → AreSoMany count says → queued_by s ≡ record { number = from; mark = 0 } ∷ [] → from < count → Keeps says s.least from
+    → AreSoMany count says → queued_by s ≡ record { number = from; mark = 0 } ∷ [] → from < count → MayBeOfUse says s.least from
     → IsSearching count says s
 searching_begins count from says s few room counted one within keeps = record {
   few = few;
   room = room;
   counted = counted;
-  queue = one_is_queue count (Keeps says s.least) (Leads says) from (queued_by s) one within keeps;
+  queue = one_is_queue count (MayBeOfUse says s.least) (Leads says) from (queued_by s) one within keeps;
 }
 
 pub nothing_read : (says : Told → Type 0) (s : SearchState) → ((l : ℕ) → marked_at s.words l ≡ []) → AreRead says s
@@ -60,7 +60,7 @@ module _ (count : ℕ) (more less : Told → Type 0) (kept : (t : Told) → less
     few = search.few;
     room = search.room;
     counted = λ t said. search.counted t (kept t said);
-    queue = queue_weaker count (Keeps more s.least) (Keeps less s.least) (Leads more) (Leads less) (queued_by s)
+    queue = queue_weaker count (MayBeOfUse more s.least) (MayBeOfUse less s.least) (Leads more) (Leads less) (queued_by s)
         (λ p keeps t said. keeps t (kept t said)) (λ p q leads t said. leads t (kept t said)) search.queue;
   }
 
@@ -88,14 +88,14 @@ module _ (count : ℕ) (says : Told → Type 0) (a b : SearchState) (p c number 
   abbrev IsNew : Type 0
   IsNew = (queued_by b ≡ queued_by a ++ record { number = p; mark = c } ∷ []) × (a.least ≤ number) × (¬ IsQueued (queued_by a) p)
 
-  queue_after : IsQueueOf count (Keeps says a.least) (Leads says) (queued_by b)
+  queue_after : IsQueueOf count (MayBeOfUse says a.least) (Leads says) (queued_by b)
   queue_after =
       ⊎_elim
       (λ (same : IsSame).
-      subst (λ (xs : List Marked). IsQueueOf count (Keeps says a.least) (Leads says) xs) (sym same.0) search.queue)
+      subst (λ (xs : List Marked). IsQueueOf count (MayBeOfUse says a.least) (Leads says) xs) (sym same.0) search.queue)
       (λ (new : IsNew).
-      subst (λ (xs : List Marked). IsQueueOf count (Keeps says a.least) (Leads says) xs) (sym new.0)
-      (queue_push count (Keeps says a.least) (Leads says) (queued_by a) (record { number = p; mark = c }) search.queue child
+      subst (λ (xs : List Marked). IsQueueOf count (MayBeOfUse says a.least) (Leads says) xs) (sym new.0)
+      (queue_push count (MayBeOfUse says a.least) (Leads says) (queued_by a) (record { number = p; mark = c }) search.queue child
       within leads new.2 (λ t said. omega (arith, is t said, new.1))))
       enqueued.queue
 
@@ -104,7 +104,7 @@ module _ (count : ℕ) (says : Told → Type 0) (a b : SearchState) (p c number 
     few = search.few;
     room = omega (arith, search.room, enqueued.bound);
     counted = search.counted;
-    queue = subst (λ (n : ℕ). IsQueueOf count (Keeps says n) (Leads says) (queued_by b)) (sym enqueued.least) queue_after;
+    queue = subst (λ (n : ℕ). IsQueueOf count (MayBeOfUse says n) (Leads says) (queued_by b)) (sym enqueued.least) queue_after;
   }
 
   pub enqueued_goes_on : GoesOn a b c

@@ -20,7 +20,7 @@ pub record StandsAt (table : List ℕ) (n p : ℕ) : Type 0 where
   pub before : (k : ℕ) → k < step → looked_at table n k ≢ 0
 
 -- The table has the place of each number of a list, and no other places.
-pub record AreListed (table numbers : List ℕ) : Type 0 where
+pub record HasPlacesOf (table numbers : List ℕ) : Type 0 where
   pub few : length table < 2 ^ 32
   pub within : (i : ℕ) → slice_index_or table i 0 ≤ length numbers
   pub stand : (p : ℕ) → p < length numbers → StandsAt table (slice_index_or numbers p 0) p

@@ -25,8 +25,8 @@ pub record IsIdle (s : SearchState) : Type 0 where
   pub words : (l : ℕ) → marked_at s.words l ≡ []
 
 -- p may be of use, as far as a source says its generation number
-abbrev pub Keeps : (Told → Type 0) → ℕ → ℕ → Type 0
-Keeps says least p = (t : Told) → says t → least ≤ generation_at t.history p
+abbrev pub MayBeOfUse : (Told → Type 0) → ℕ → ℕ → Type 0
+MayBeOfUse says least p = (t : Told) → says t → least ≤ generation_at t.history p
 
 -- q is a parent of p, as far as a source says so
 abbrev pub Leads : (Told → Type 0) → ℕ → ℕ → Type 0
@@ -41,7 +41,7 @@ pub record IsSearching (count : ℕ) (says : Told → Type 0) (s : SearchState) 
   pub few : count < 2 ^ 32
   pub room : count ≤ s.reached.bound
   pub counted : AreSoMany count says
-  pub queue : IsQueueOf count (Keeps says s.least) (Leads says) (queued_by s)
+  pub queue : IsQueueOf count (MayBeOfUse says s.least) (Leads says) (queued_by s)
 
 -- Of an extra edge list those words that are marked were gone over: the parent that each names is queued where it is of use,
 -- and the word after it is marked too, unless it names the last parent, or the word after it is to be gone over next.

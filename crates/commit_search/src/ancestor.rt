@@ -4,7 +4,7 @@ ghost use Rattle.std.specs.Prelude.{◌≡◌, ◌⊎◌, ◌+◌, ◌-◌, ◌<
 ghost use Rattle.std.specs.Prelude.{IsTrue, Contains, alloc_error};
 ghost use Rattle.graph_walks.specs.History.{generation_at};
 ghost use Rattle.graph_walks.specs.Walks.{CountWalks, Reaches};
-ghost use Rattle.commit_search.specs.Search.{IsIdle, Keeps};
+ghost use Rattle.commit_search.specs.Search.{IsIdle, MayBeOfUse};
 ghost use Rattle.commit_search.specs.Source.{Told};
 
 use crate::marks::Marks;
@@ -30,7 +30,7 @@ impl<M: Marks> Search<M> {
         requires from { from.0 < S.count (S.known commits.old) }
         requires least { (t : Told) → S.says commits.old t
             → least ≡ generation_at t.history to.0 }
-        requires above { Keeps (S.says commits.old) least from.0 }
+        requires above { MayBeOfUse (S.says commits.old) least from.0 }
         ensures known { S.known commits.new ≡ S.known commits.old }
         ensures kept { (t : Told) → S.says commits.new t → S.says commits.old t }
         ensures yes { IfOk result (λ found. (t : Told) → S.says commits.new t

@@ -3,7 +3,7 @@
 ghost use Rattle.std.specs.Prelude.{◌≡◌, ◌^◌, ◌<◌, ◌≤◌, ◌++◌, ◌∷◌, [], ℕ, IfNone, IfOk};
 ghost use Rattle.std.specs.Prelude.{IfSome, OnErr, OnOk, true, length, slice_index_or};
 ghost use Rattle.commit_search.specs.Places.{IsListed};
-ghost use Rattle.commit_search.specs.HashTable.{AreListed};
+ghost use Rattle.commit_search.specs.HashTable.{HasPlacesOf};
 
 use crate::hash_table::{STEPS, looked_at, put};
 use std::alloc::{AllocError, Global};
@@ -30,13 +30,13 @@ pub struct Places {
 
 impl Model for Places {
     ghost use Rattle.std.specs.Prelude.{ℕ, List};
-    ghost use Rattle.commit_search.specs.HashTable.{AreListed};
+    ghost use Rattle.commit_search.specs.HashTable.{HasPlacesOf};
 
     ghost Value = { List ℕ };
 
     ghost view = { λ a. a.numbers.items };
 
-    ghost invariant = { λ a. AreListed a.table.items a.numbers.items };
+    ghost invariant = { λ a. HasPlacesOf a.table.items a.numbers.items };
 }
 
 impl Places {
@@ -109,7 +109,7 @@ fn number_at(numbers: &Vec<u32>, place: usize) -> u32
 /// The place of a number, as a table says.
 fn found(table: &Vec<u32>, numbers: &Vec<u32>, number: u32) -> Option<usize>
     requires some { 0 < length table.now.items }
-    requires listed { AreListed table.now.items numbers.now.items }
+    requires listed { HasPlacesOf table.now.items numbers.now.items }
     ensures within { IfSome result (λ place. place < length numbers.now.items) }
     ensures some { IfSome result (λ place. slice_index_or numbers.now.items place 0 ≡ number) }
     ensures none { IfNone result (¬ IsListed numbers.now.items number) }
@@ -132,7 +132,7 @@ fn fill(table: &mut Vec<u32>, numbers: &Vec<u32>) -> bool
     requires few { length table.old.items < 2 ^ 32 }
     requires most { length numbers.now.items ≤ 2 ^ 31 }
     requires empty { (i : ℕ) → slice_index_or table.old.items i 0 ≡ 0 }
-    ensures { result ≡ true → AreListed table.new.items numbers.now.items }
+    ensures { result ≡ true → HasPlacesOf table.new.items numbers.now.items }
 {
     for place in 0..numbers.len() {
         if !put(table, number_at(numbers, place), place as u32) {
@@ -145,7 +145,7 @@ fn fill(table: &mut Vec<u32>, numbers: &Vec<u32>) -> bool
 /// A table for all numbers, with more slots than this, and twice as many as there are numbers.
 fn table_of(alloc: Global, numbers: &Vec<u32>, slots: usize) -> Result<Vec<u32>, AllocError>
     requires { slots < 2 ^ 32 }
-    ensures { IfOk result (λ table. AreListed table.items numbers.now.items) }
+    ensures { IfOk result (λ table. HasPlacesOf table.items numbers.now.items) }
 {
     let mut slots = slots.max(LEAST / 2);
     while slots < MOST {

@@ -7,7 +7,7 @@ ghost use Rattle.graph_walks.specs.Walks.{CountWalks, IsWalkBetween};
 ghost use Rattle.commit_search.specs.WalkAnswer.{IsAnyAnswer, IsAnswer, MayLead};
 ghost use Rattle.commit_search.specs.Positions.{numbers_of};
 ghost use Rattle.commit_search.specs.Queue.{commit_in, child_in, IsQueue, Depth};
-ghost use Rattle.commit_search.specs.Search.{queued_by, IsIdle, Keeps};
+ghost use Rattle.commit_search.specs.Search.{queued_by, IsIdle, MayBeOfUse};
 ghost use Rattle.commit_search.specs.Source.{Told};
 
 use crate::Reached;
@@ -33,7 +33,7 @@ impl<M: Marks> Search<M> {
         requires from { from.0 < S.count (S.known commits.old) }
         requires least { (t : Told) → S.says commits.old t
             → least ≡ generation_at t.history to.0 }
-        requires above { Keeps (S.says commits.old) least from.0 }
+        requires above { MayBeOfUse (S.says commits.old) least from.0 }
         requires allowed { (t : Told) → S.says commits.old t → MayLead t.history from.0 to.0 }
         ensures known { S.known commits.new ≡ S.known commits.old }
         ensures kept { (t : Told) → S.says commits.new t → S.says commits.old t }

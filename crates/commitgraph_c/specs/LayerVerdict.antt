@@ -7,7 +7,7 @@ use Rattle.graph_format.specs.declared.fault.CommitFault.TheVariants as commit
 use Rattle.graph_format.specs.declared.fault.LayerFault.TheVariants as fault
 use Rattle.graph_walks.specs.Counts.{greatest, least}
 use Rattle.graph_walks.specs.History.{generations, parent_numbers}
-use Rattle.graph_layer.specs.Traverse.{layer_points}
+use Rattle.graph_layer.specs.Traverse.{traverse_points}
 use Rattle.graph_layer.specs.declared.file.verify.Outcome.{Outcome}
 use Rattle.graph_layer.specs.declared.file.verify.TraverseError.{TraverseError}
 use Rattle.graph_layer.specs.declared.file.verify.TraverseError.TheVariants as error
@@ -44,7 +44,7 @@ refusal_of_layer error.OutOfMemory = refusal_in out_of_memory 0 0
 abbrev pub MayRefuseLayer : Layer → TraverseError NoFault → Type 0
 MayRefuseLayer layer (error.Processor pos e) = ⊥
 MayRefuseLayer layer error.OutOfMemory = ⊤
-MayRefuseLayer layer x = first_fault (layer_points layer) ≡ Some x
+MayRefuseLayer layer x = first_fault (traverse_points layer) ≡ Some x
 
 -- The statistics of a layer as a verdict tells them.
 pub record TellsLayerStats (layer : Layer) (v : CgLayerVerdict) : Type 0 where
@@ -62,7 +62,7 @@ pub record IsRefusedLayer (layer : Layer) (v : CgLayerVerdict) : Type 0 where
 
 -- The verdict on a layer: the code is 0 only where no check finds a fault, and else says which one found the first.
 pub record IsLayerVerdict (layer : Layer) (v : CgLayerVerdict) : Type 0 where
-  pub right : v.code ≡ 0 → (first_fault (layer_points {E = NoFault} layer) ≡ None) × TellsLayerStats layer v
+  pub right : v.code ≡ 0 → (first_fault (traverse_points {E = NoFault} layer) ≡ None) × TellsLayerStats layer v
   pub refused : ¬ (v.code ≡ 0) → IsRefusedLayer layer v
 
 -- The verdict tells these statistics.

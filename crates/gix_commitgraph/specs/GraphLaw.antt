@@ -35,13 +35,13 @@ pub record AreCounted (layers : List Layer) : Type 0 where
   pub stops : (i : ℕ) (layer : Layer) → slice_get layers i ≡ Some layer → stop layers i ≡ start layers i + length layer.ids
 
 -- the ids of a layer ascend under an exact fan
-abbrev pub IsOrdered : Layer → Type 0
-IsOrdered layer = AreAscending layer.ids × IsExactFan layer.fan layer.ids
+abbrev pub IsInOrder : Layer → Type 0
+IsInOrder layer = AreAscending layer.ids × IsExactFan layer.fan layer.ids
 
 -- where all layers are so, each answer to a lookup is that of a plain scan of all ids
 abbrev pub AreScanned : List Layer → Type 0
 AreScanned layers =
-    All IsOrdered layers → (id : List ℕ) (answer : Option ℕ) → FoundIn layers id answer → answer ≡ scan (graph_ids layers) id
+    All IsInOrder layers → (id : List ℕ) (answer : Option ℕ) → FoundIn layers id answer → answer ≡ scan (graph_ids layers) id
 
 -- The kind of this layer differs from that of the layer before it, and no earlier one's does.
 pub record IsMismatch (layers : List Layer) (layer : ℕ) : Type 0 where

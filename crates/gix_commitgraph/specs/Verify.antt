@@ -65,8 +65,8 @@ module _ {E : Type 0} where
 
   -- the ids of the commit at a position of layer i: its own, where the options ask for it that no earlier layer has it, and the
   -- root tree's
-  abbrev pub ids_refusal : VerifyOptions → List Layer → ℕ → Layer → ℕ → Option (VerifyError E)
-  ids_refusal options layers i layer pos =
+  abbrev pub commit_ids_refusal : VerifyOptions → List Layer → ℕ → Layer → ℕ → Option (VerifyError E)
+  commit_ids_refusal options layers i layer pos =
       option_map (error.Commit (position_of (start layers i + pos))) (id_fault layer pos)
       otherwise (if options.distinct_ids then duplicate_refusal layers i layer pos else None)
       otherwise option_map (error.Commit (position_of (start layers i + pos))) (tree_fault layer pos)
@@ -74,7 +74,7 @@ module _ {E : Type 0} where
   -- the commit at a position of layer i: its ids, its parents, its generation number, the processor
   abbrev pub commit_points : VerifyOptions → List Layer → ℕ → Layer → ℕ → List (Point (VerifyError E))
   commit_points options layers i layer pos =
-      check (ids_refusal options layers i layer pos)
+      check (commit_ids_refusal options layers i layer pos)
       ∷ check (parents_refusal layers i layer pos)
       ∷ check (generation_refusal (history_of layers) (start layers i + pos))
       ∷ call (start layers i + pos)
@@ -88,12 +88,12 @@ module _ {E : Type 0} where
       ∷ flat_map (commit_points options layers i layer) (range_with_len 0 (length layer.ids))
 
   -- the layers from layer i on
-  abbrev pub layers_from : VerifyOptions → List Layer → ℕ → List (Point (VerifyError E))
-  layers_from options layers i = flat_map (λ e. layer_points options layers e.0 e.1) (enumerate_from i (drop i layers))
+  abbrev pub layer_points_from : VerifyOptions → List Layer → ℕ → List (Point (VerifyError E))
+  layer_points_from options layers i = flat_map (λ e. layer_points options layers e.0 e.1) (enumerate_from i (drop i layers))
 
   -- the number of layers, and then each from layer i on
   abbrev pub points_from : VerifyOptions → List Layer → ℕ → List (Point (VerifyError E))
-  points_from options layers i = check (error.TooManyFiles when nat_lt 256 (length layers)) ∷ layers_from options layers i
+  points_from options layers i = check (error.TooManyFiles when nat_lt 256 (length layers)) ∷ layer_points_from options layers i
 
   -- the number of layers, and then each layer
   abbrev pub points_with : VerifyOptions → List Layer → List (Point (VerifyError E))

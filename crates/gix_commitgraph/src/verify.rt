@@ -121,7 +121,7 @@ impl Graph {
     ghost use Rattle.graph_format.specs.StoredHistory.{history_of};
     ghost use Rattle.gix_commitgraph.specs.Verify.{graph_points, points_from, points_with};
     ghost use Rattle.gix_commitgraph.specs.Verify.{cause_of, Summarizes};
-    ghost use Rattle.gix_commitgraph.specs.GraphLaw.{IsOrdered};
+    ghost use Rattle.gix_commitgraph.specs.GraphLaw.{IsInOrder};
     ghost use Rattle.gix_commitgraph.specs.Statistics.{AreStatistics};
     ghost use Rattle.gix_commitgraph.specs.Distinct.{IsSoundWith, IsDeservedWith, LookupsAreExact};
     ghost use Rattle.gix_commitgraph.specs.Graph.{IsGraph};
@@ -286,7 +286,7 @@ impl Graph {
         F: FnMut(&Commit<'a>) -> Result<(), E>,
         requires callable { MayBeCalled F.FnMut (InGraph self.now) }
         requires first { first ≤ length self.now }
-        requires ordered { All IsOrdered (take first self.now) }
+        requires ordered { All IsInOrder (take first self.now) }
         requires statistics { AreStatistics (history_of (take first self.now)) statistics }
         ensures agrees { Agrees (CalledOn F.FnMut (InGraph self.now))
             (points_from options self.now first) processor.old processor.new cause_of result }

@@ -5,4 +5,5 @@ pub mod DateOffsets
 pub mod Chunks
 pub mod Written
 pub mod Said
+pub mod StoredNumbers
 pub mod Sizes

@@ -5,8 +5,8 @@ use Rattle.std.specs.Result.{result_err}
 use Rattle.std.proofs.lemmas.List.{drop_more}
 use Rattle.std.specs.List.{FoldsTo}
 use Rattle.std.proofs.lemmas.Fn.{FoldsTo-push}
-use Rattle.graph_format.specs.Points.{Point, check, call, first_some, first_fault, calls, calls_before_fault, Accepts, Passes}
-use Rattle.graph_format.specs.Points.{IsRefused, StopsAt, RunsOutOfMemory, Cause, refused, by_processor, no_memory, StopsBy}
+use Rattle.graph_format.specs.Points.{Point, check, call, first_some, first_fault, calls, calls_before_fault, Accepts, PassesAll}
+use Rattle.graph_format.specs.Points.{IsRefused, StopsAtCall, RunsOutOfMemory, Cause, refused, by_processor, no_memory, StopsBy}
 
 module _ {X : Type 0} where
   pub first_fault-append : (a b : List (Point X)) → first_fault a ≡ None → first_fault (a ++ b) ≡ first_fault b
@@ -77,7 +77,7 @@ module _ {F E X : Type 0} (step : F → ℕ → Result (Unit {0}) E → F → Ty
   }
 
   pub stopped_at_call : (p : ℕ) (e : E) (rest : List (Point X)) (g h : F) → step g p (Err e) h → Reaches (call p ∷ rest) g
-      → StopsAt step points f h p e
+      → StopsAtCall step points f h p e
   stopped_at_call p e rest g h called r =
       record {
         before = r.before;
@@ -92,7 +92,7 @@ module _ {F E X : Type 0} (step : F → ℕ → Result (Unit {0}) E → F → Ty
   pub ran_out : (rest : List (Point X)) (g : F) → Reaches rest g → RunsOutOfMemory step points f g
   ran_out rest g r = record { before = r.before; after = rest; split = r.split; no_fault = r.no_fault; accepted = r.accepted }
 
-  pub passed : (g : F) → Reaches [] g → Passes step points f g
+  pub passed : (g : F) → Reaches [] g → PassesAll step points f g
   passed g r = let whole : points ≡ r.before = r.split ∙ append-nil r.before in record {
     no_fault = ap first_fault whole ∙ r.no_fault;
     accepted = rw whole r.accepted;
@@ -110,7 +110,7 @@ module _ {F E X : Type 0} (step : F → ℕ → Result (Unit {0}) E → F → Ty
   before_part : points ≡ (reached.before ++ part) ++ rest
   before_part = reached.split ∙ sym (append_assoc reached.before part rest)
 
-  pub reached_past_part : Passes step part g h → Reaches step points f rest h
+  pub reached_past_part : PassesAll step part g h → Reaches step points f rest h
   reached_past_part passes = record {
     before = reached.before ++ part;
     split = before_part;
@@ -131,7 +131,7 @@ module _ {F E X : Type 0} (step : F → ℕ → Result (Unit {0}) E → F → Ty
         (FoldsTo-append _ f g h (calls reached.before) (calls_before_fault part) reached.accepted r.accepted);
   }
 
-  stopped_in_part : (p : ℕ) (e : E) → StopsAt step part g h p e → StopsAt step points f h p e
+  stopped_in_part : (p : ℕ) (e : E) → StopsAtCall step part g h p e → StopsAtCall step points f h p e
   stopped_in_part p e r = record {
     before = reached.before ++ r.before;
     after = r.after ++ rest;

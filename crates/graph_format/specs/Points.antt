@@ -47,7 +47,7 @@ module _ {F E : Type 0} (step : F → ℕ → Result (Unit {0}) E → F → Type
 
   module _ {X : Type 0} (points : List (Point X)) (f g : F) where
     -- No point has a fault, and the processor accepted each call.
-    pub record Passes : Type 0 where
+    pub record PassesAll : Type 0 where
       pub no_fault : first_fault points ≡ None
       pub accepted : Accepts f (calls points) g
 
@@ -57,7 +57,7 @@ module _ {F E : Type 0} (step : F → ℕ → Result (Unit {0}) E → F → Type
       pub accepted : Accepts f (calls_before_fault points) g
 
     -- No point before the call at p has a fault, the processor accepted the calls before it, and answered e there.
-    pub record StopsAt (p : ℕ) (e : E) : Type 0 where
+    pub record StopsAtCall (p : ℕ) (e : E) : Type 0 where
       pub before : List (Point X)
       pub after : List (Point X)
       pub split : points ≡ before ++ call p ∷ after
@@ -76,10 +76,10 @@ module _ {F E : Type 0} (step : F → ℕ → Result (Unit {0}) E → F → Type
 
     abbrev pub StopsBy : Cause X E → Type 0
     StopsBy (refused x) = IsRefused x
-    StopsBy (by_processor p e) = StopsAt p e
+    StopsBy (by_processor p e) = StopsAtCall p e
     StopsBy no_memory = RunsOutOfMemory
 
     -- The answer of a check and the state in which it leaves the processor. `cause` says why an error stops it.
     abbrev pub Agrees : {T W : Type 0} → (W → Cause X E) → Result T W → Type 0
-    Agrees cause (Ok outcome) = Passes
+    Agrees cause (Ok outcome) = PassesAll
     Agrees cause (Err error) = StopsBy (cause error)

@@ -4,7 +4,7 @@ use Rattle.std.proofs.Common.{subst, ⊎_elim, arith, length-append, Result, Ok,
 use Rattle.std.specs.Prelude.{⊤}
 use Rattle.std.specs.List.{range_with_len}
 use Rattle.graph_format.specs.Layer.{Layer}
-use Rattle.graph_format.specs.Points.{Point, StopsAt, Agrees, calls, call, first_fault}
+use Rattle.graph_format.specs.Points.{Point, StopsAtCall, Agrees, calls, call, first_fault}
 use Rattle.graph_format.specs.StoredHistory.{history_of}
 use Rattle.graph_format.proofs.PointLemmas.{calls-append}
 use Rattle.gix_commitgraph.specs.Distinct.{IsDeservedWith}
@@ -96,7 +96,7 @@ module _ {F : Type 0} (step : F → ℕ → Result (Unit {0}) Stopped → F → 
     (bound : Bound) (options : VerifyOptions) (layers : List Layer)
     (all : calls (points_with {E = Stopped} options layers) ≡ range_with_len 0 (total layers)) (few : total layers < 2 ^ 32)
     (f g : F) (none : value f ≡ 0) (same : bound_at f ≡ bound) where
-  stopped_at : (p : ℕ) (e : Stopped) → StopsAt step (points_with {E = Stopped} options layers) f g p e
+  stopped_at : (p : ℕ) (e : Stopped) → StopsAtCall step (points_with {E = Stopped} options layers) f g p e
       → (p < total layers) × StopsAfter bound p
   stopped_at p e at =
       let earlier : List ℕ = calls at.before in

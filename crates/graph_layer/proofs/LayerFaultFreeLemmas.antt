@@ -8,7 +8,7 @@ use Rattle.graph_format.specs.Layer.{IsOpened}
 use Rattle.graph_format.specs.Parents.{parents_of}
 use Rattle.graph_format.specs.Points.{first_fault}
 use Rattle.graph_format.specs.RightLayer.{AreParentsDecoded, IsSoundLayer}
-use Rattle.graph_layer.specs.Traverse.{commit_points, layer_points}
+use Rattle.graph_layer.specs.Traverse.{traverse_points_at, traverse_points}
 use Rattle.graph_format.specs.Faults.{layer_fault, commit_fault}
 use Rattle.graph_format.proofs.FaultFreeLemmas.{check-none, range-none}
 use Rattle.graph_format.proofs.LayerHistoryLemmas.{IsPaired, opened_is_paired}
@@ -34,9 +34,9 @@ abbrev IsPassedCommit : Layer → ℕ → Type 0
 IsPassedCommit layer pos = (commit_fault layer pos ≡ None) × IsDecodedAt layer (record_at layer pos)
 
 module _ {E : Type 0} where
-  commit_points-iff : (layer : Layer) (pos : ℕ) → (first_fault (commit_points {E = E} layer pos) ≡ None)
+  traverse_points_at-iff : (layer : Layer) (pos : ℕ) → (first_fault (traverse_points_at {E = E} layer pos) ≡ None)
       ↔ IsPassedCommit layer pos
-  commit_points-iff layer pos = (
+  traverse_points_at-iff layer pos = (
     λ h.
         let ids = (check-none _ _).0 h in
         let parents = (check-none _ _).0 ids.1 in
@@ -48,15 +48,16 @@ module _ {E : Type 0} where
         ),
   )
 
-  pub layer_points-iff : (layer : Layer) → IsOpened layer → (first_fault (layer_points {E = E} layer) ≡ None) ↔ IsSoundLayer layer
-  layer_points-iff layer opened =
+  pub traverse_points-iff : (layer : Layer) → IsOpened layer
+      → (first_fault (traverse_points {E = E} layer) ≡ None) ↔ IsSoundLayer layer
+  traverse_points-iff layer opened =
       let paired = opened_is_paired layer opened in
-      let each = range-none (commit_points {E = E} layer) (length layer.ids) in (
+      let each = range-none (traverse_points_at {E = E} layer) (length layer.ids) in (
         λ h.
             let parts = (check-none _ _).0 h in
             let whole = (layer_fault-iff layer).0 ((option_map-none _ (layer_fault layer)).0 parts.0) in
             let passed : (pos : ℕ) → pos < length layer.ids → IsPassedCommit layer pos = λ pos within.
-            (commit_points-iff layer pos).0 (each.0 parts.1 pos within) in
+            (traverse_points_at-iff layer pos).0 (each.0 parts.1 pos within) in
             let ids = (commit_faults-iff layer paired).0 (λ pos within. (passed pos within).0) in
             record {
               right = record {
@@ -79,6 +80,6 @@ module _ {E : Type 0} where
             let decoded = (decoded-iff layer paired).1 sound.decoded in
             (check-none _ _).1 (
               (option_map-none _ (layer_fault layer)).1 whole,
-              each.1 (λ pos within. (commit_points-iff layer pos).1 (ids pos within, decoded pos within)),
+              each.1 (λ pos within. (traverse_points_at-iff layer pos).1 (ids pos within, decoded pos within)),
             ),
       )

@@ -33,20 +33,21 @@ module _ {E : Type 0} where
   parent_refusal layer pos = option_map (error.Parent (record { 0 = pos })) (parents_of (record_at layer pos) layer.edges).fault
 
   -- a commit: its ids, the processor, its parents
-  abbrev pub commit_points : Layer → ℕ → List (Point (TraverseError E))
-  commit_points layer pos =
+  abbrev pub traverse_points_at : Layer → ℕ → List (Point (TraverseError E))
+  traverse_points_at layer pos =
       check (option_map (commit_refusal pos) (commit_fault layer pos)) ∷ call pos ∷ check (parent_refusal layer pos) ∷ []
 
   -- the layer as a whole, and then each commit
-  abbrev pub layer_points : Layer → List (Point (TraverseError E))
-  layer_points layer =
-      check (option_map layer_refusal (layer_fault layer)) ∷ flat_map (commit_points layer) (range_with_len 0 (length layer.ids))
+  abbrev pub traverse_points : Layer → List (Point (TraverseError E))
+  traverse_points layer =
+      check (option_map layer_refusal (layer_fault layer))
+      ∷ flat_map (traverse_points_at layer) (range_with_len 0 (length layer.ids))
 
   -- why the check stopped
-  abbrev pub cause_of : TraverseError E → Cause (TraverseError E) E
-  cause_of (error.Processor pos e) = by_processor pos.0 e
-  cause_of error.OutOfMemory = no_memory
-  cause_of x = refused x
+  abbrev pub traverse_cause : TraverseError E → Cause (TraverseError E) E
+  traverse_cause (error.Processor pos e) = by_processor pos.0 e
+  traverse_cause error.OutOfMemory = no_memory
+  traverse_cause x = refused x
 
 -- The statistics of some commits of a layer.
 pub record SummarizesLayer (history : List Node) (outcome : Outcome) : Type 0 where

@@ -6,7 +6,7 @@ ghost use Rattle.std.specs.List.{range_with_len};
 ghost use Rattle.graph_format.specs.Layer.{Layer, IsOpened};
 ghost use Rattle.graph_format.specs.Points.{calls, first_fault};
 ghost use Rattle.graph_format.specs.RightLayer.{IsSoundLayer};
-ghost use Rattle.graph_layer.specs.Traverse.{layer_points, FileStats};
+ghost use Rattle.graph_layer.specs.Traverse.{traverse_points, FileStats};
 
 use crate::file::verify::Outcome;
 
@@ -16,14 +16,14 @@ use crate::file::verify::Outcome;
 /// of the layer, once and in order.
 pub fn a_check_of_a_layer_calls_on_each_position_once<E>()
     ensures { (layer : Layer)
-        → calls (layer_points {E = E} layer) ≡ range_with_len 0 (length layer.ids) }
+        → calls (traverse_points {E = E} layer) ≡ range_with_len 0 (length layer.ids) }
 {}
 
 /// No condition of the check of an opened layer fails exactly where the layer keeps its rules and
 /// the parents of each of its commits can be decoded.
 pub fn a_layer_without_fault_is_right<E>()
     ensures { (layer : Layer) → IsOpened layer
-        → (first_fault (layer_points {E = E} layer) ≡ None) ↔ IsSoundLayer layer }
+        → (first_fault (traverse_points {E = E} layer) ≡ None) ↔ IsSoundLayer layer }
 {}
 /// The statistics of a layer count each of its commits once: the values of `parent_counts` add up
 /// to `num_commits`.

@@ -14,12 +14,13 @@ use Rattle.changed_paths.specs.declared.filters.LayerFiltersError.{LayerFiltersE
 use Rattle.changed_paths.specs.declared.filters.LayerFiltersError.TheVariants.{IndexSize, DataSize, Version, Hashes, NoBits}
 use Rattle.changed_paths.specs.declared.filters.LayerFiltersError.TheVariants.{LeftOver}
 use Rattle.changed_paths.proofs.PlaceLemmas.{all_fit}
+use Rattle.graph_encoder.specs.StoredNumbers.{numbers_at_head}
 use Rattle.graph_encoder.specs.Written.{words_bytes, filter_index, filter_data, numbers_before}
 use Rattle.graph_encoder.proofs.OffsetLemmas.{word_in-words_bytes}
 use Rattle.graph_encoder.proofs.Pieces.{length-words_bytes}
 use Rattle.graph_levels.specs.ListEnds.{start_in}
 use Rattle.graph_levels.proofs.ListLemmas.{range_before}
-use Rattle.graph_writer.specs.NewFilters.{filter_numbers, filter_count, new_filter, numbers_at_head, AreRightNumbers}
+use Rattle.graph_writer.specs.NewFilters.{filter_numbers, filter_count, new_filter, AreRightNumbers}
 use Rattle.graph_writer.specs.declared.filters.NewFilters.{NewFilters}
 
 -- what stands behind other bytes

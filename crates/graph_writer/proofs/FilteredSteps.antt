@@ -10,6 +10,7 @@ use Rattle.graph_format.specs.OptionalChunks.{index_in, data_in}
 use Rattle.graph_chunks.specs.StoredFilters.{layer_filters_refusal}
 use Rattle.graph_encoder.specs.Plan.{AreFilters}
 use Rattle.graph_encoder.specs.Said.{SaysPlan}
+use Rattle.graph_encoder.specs.StoredNumbers.{stored_filter_numbers, numbers_at_head}
 use Rattle.graph_encoder.specs.Written.{filter_index, filter_data}
 use Rattle.graph_encoder.specs.declared.filters.FilterNumbers.{FilterNumbers}
 use Rattle.graph_encoder.specs.declared.plan.LayerPlan.{LayerPlan}
@@ -17,8 +18,7 @@ use Rattle.graph_levels.specs.OnTop.{level_at}
 use Rattle.graph_levels.specs.ParentLists.{parent_list}
 use Rattle.graph_levels.specs.declared.level.Level.{Level}
 use Rattle.graph_writer.specs.FiltersInOrder.{AreFiltersInOrder, MaybeInOrder}
-use Rattle.graph_writer.specs.NewFilters.{filter_numbers_in, filter_count, numbers_at_head}
-use Rattle.graph_writer.specs.NewFilters.{AreRightNumbers, HasNewFilters, HasFiltersOf}
+use Rattle.graph_writer.specs.NewFilters.{filter_count, AreRightNumbers, HasNewFilters, HasFiltersOf}
 use Rattle.graph_writer.specs.NewLayers.{IsNewLayer}
 use Rattle.graph_writer.specs.PlannedCommits.{IsPlanOf}
 use Rattle.graph_writer.specs.SortedPlaces.{IsMixed}
@@ -35,8 +35,8 @@ unfolding filter_in
 filter-with layer index body p has_index has_body = rw (has_index, has_body) refl
 
 numbers-with : (layer : Layer) (index body : List ℕ) → index_in layer ≡ Some index → data_in layer ≡ Some body
-    → filter_numbers_in layer ≡ numbers_at_head body
-unfolding filter_numbers_in
+    → stored_filter_numbers layer ≡ numbers_at_head body
+unfolding stored_filter_numbers
 numbers-with layer index body has_index has_body = rw (has_index, has_body) refl
 
 refusal-with : (layer : Layer) (index body : List ℕ) → index_in layer ≡ Some index → data_in layer ≡ Some body

@@ -1,13 +1,13 @@
 -- The changed-path filters that are handed in with commits, and those of the layer that is written ("Bloom Filter Index", "Bloom
 -- Filter Data").
-use Rattle.std.specs.Prelude.{◌≡◌, ◌≢◌, ◌<◌, ◌≤◌, ℕ, List, Option, Some, None, MatchOption, length, option_map, nat_lt}
-use Rattle.std.specs.Prelude.{slice_get, slice_index, slice_range, if◌then◌else◌}
+use Rattle.std.specs.Prelude.{◌≡◌, ◌≢◌, ◌<◌, ◌≤◌, ℕ, List, Option, Some, None, MatchOption, length, option_map}
+use Rattle.std.specs.Prelude.{slice_get, slice_index, slice_range}
 use Rattle.changed_paths.specs.Filters.{version_of}
 use Rattle.graph_chunks.specs.GraphFilters.{filter_in}
 use Rattle.graph_format.specs.OptionalChunks.{index_in, data_in}
 use Rattle.graph_chunks.specs.StoredFilters.{layer_filters_refusal}
+use Rattle.graph_encoder.specs.StoredNumbers.{stored_filter_numbers}
 use Rattle.graph_encoder.specs.declared.filters.FilterNumbers.{FilterNumbers}
-use Rattle.graph_format.specs.Integers.{word_in}
 use Rattle.graph_format.specs.Layer.{Layer, IsLayer}
 use Rattle.graph_levels.specs.ListEnds.{start_in}
 use Rattle.graph_writer.specs.WrittenLayers.{IsWrittenLayer}
@@ -42,23 +42,9 @@ pub record AreRightNumbers (numbers : FilterNumbers) : Type 0 where
   pub few_hashes : numbers.hashes ≤ 65535
   pub bits : 0 < numbers.bits_per_entry
 
--- the three numbers at the head of the data of filters, where it is long enough
-abbrev pub numbers_at_head : List ℕ → Option FilterNumbers
-numbers_at_head body =
-    if nat_lt (length body) 12 then None
-    else Some (record { version = word_in body 0; hashes = word_in body 1; bits_per_entry = word_in body 2 })
-
-abbrev pub numbers_with : Option (List ℕ) → Option (List ℕ) → Option FilterNumbers
-numbers_with (Some index) (Some body) = numbers_at_head body
-numbers_with index body = None
-
--- those of a layer, none where it has no filters
-unfoldable pub filter_numbers_in : Layer → Option FilterNumbers
-filter_numbers_in layer = numbers_with (index_in layer) (data_in layer)
-
 -- The layer has the filters that were handed in, and the numbers before them: that of each commit is the one of its number.
 pub record HasNewFilters (commits : List NewCommit) (filters : NewFilters) (layer : Layer) : Type 0 where
-  pub numbers : filter_numbers_in layer ≡ Some (filter_numbers filters)
+  pub numbers : stored_filter_numbers layer ≡ Some (filter_numbers filters)
   pub each : (i : ℕ) (commit : NewCommit) → slice_get commits i ≡ Some commit
       → (p : ℕ) × (slice_get layer.ids p ≡ Some commit.id) × (filter_in layer p ≡ new_filter filters i)
   -- nothing refuses them where the numbers are right

@@ -11,7 +11,8 @@ use Rattle.graph_format.specs.Layer.{Layer}
 use Rattle.gix_commitgraph.specs.Graph.{graph_ids, total}
 use Rattle.gix_commitgraph.proofs.layers.GraphLemmas.{counted}
 use Rattle.gix_commitgraph.proofs.lookup.ElementLemmas.{some-place}
-use Rattle.graph_writer.specs.NewFilters.{filter_numbers_in, filter_count, byte_count, new_filter, HasFiltersOf}
+use Rattle.graph_encoder.specs.StoredNumbers.{stored_filter_numbers}
+use Rattle.graph_writer.specs.NewFilters.{filter_count, byte_count, new_filter, HasFiltersOf}
 use Rattle.graph_writer.specs.declared.commit.NewCommit.{NewCommit}
 use Rattle.graph_writer.specs.declared.filters.NewFilters.{NewFilters}
 use Rattle.merge_commands.specs.CarriedFilters.{AreCarried, CarriesFilters, HoldFilters}
@@ -92,7 +93,7 @@ no-room all gathered filter n b at told is_false whole =
 
 -- what is carried, by what was gathered
 carry : (layers : List Layer) (all : List (List ℕ)) (found : Option NewFilters) → 0 < total layers
-    → All (λ layer. filter_numbers_in layer ≢ None) layers → graph_filters_refusal layers ≡ None → all ≡ graph_filters layers
+    → All (λ layer. stored_filter_numbers layer ≢ None) layers → graph_filters_refusal layers ≡ None → all ≡ graph_filters layers
     → IfSome found (HoldFilters layers all) → IfSome found (λ _. sum_by length all < 2 ^ 32)
     → IfNone found (2 ^ 32 ≤ sum_by length all) → AreCarried layers found
 carry layers all None some each right same held room none =
@@ -103,7 +104,7 @@ carry layers all (Some filters) some each right same held room none = (
 )
 
 pub carry-ok : {E : Type 0} (layers : List Layer) (all : List (List ℕ)) (found : Result (Option NewFilters) E) → 0 < total layers
-    → All (λ layer. filter_numbers_in layer ≢ None) layers → graph_filters_refusal layers ≡ None → all ≡ graph_filters layers
+    → All (λ layer. stored_filter_numbers layer ≢ None) layers → graph_filters_refusal layers ≡ None → all ≡ graph_filters layers
     → IfOk found (λ o. IfSome o (HoldFilters layers all)) → IfOk found (λ o. IfSome o (λ _. sum_by length all < 2 ^ 32))
     → IfOk found (λ o. IfNone o (2 ^ 32 ≤ sum_by length all)) → IfOk found (AreCarried layers)
 carry-ok layers all (Ok found) some each right same held room none =

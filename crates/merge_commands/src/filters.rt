@@ -4,7 +4,7 @@ ghost use Rattle.std.specs.Prelude.{◌≡◌, ◌≢◌, ◌+◌, ◌<◌, ◌�
 ghost use Rattle.std.specs.Prelude.{IfSome, IfNone, OnErr, Some, None, All, length, slice_index_or};
 ghost use Rattle.std.specs.List.{sum_by};
 ghost use Rattle.gix_commitgraph.specs.Graph.{total};
-ghost use Rattle.graph_writer.specs.NewFilters.{filter_numbers_in, numbers_at_head};
+ghost use Rattle.graph_encoder.specs.StoredNumbers.{stored_filter_numbers, numbers_at_head};
 ghost use Rattle.merge_commands.specs.CarriedFilters.{AreCarried, HoldFilters};
 
 use gix_commitgraph::{File, Graph, Position};
@@ -40,7 +40,7 @@ pub(crate) fn filters_of(
 
 /// Whether all of these layers have filters.
 fn all_have_filters(layers: &[File]) -> bool
-    ensures { IsTrue result ↔ All (λ layer. filter_numbers_in layer ≢ None) layers.now }
+    ensures { IsTrue result ↔ All (λ layer. stored_filter_numbers layer ≢ None) layers.now }
 {
     layers.iter().all(|layer| filter_numbers(layer).is_some())
 }
@@ -48,7 +48,7 @@ fn all_have_filters(layers: &[File]) -> bool
 /// The numbers before the filters of a layer, `None` where it has no filters, or where their body
 /// is too short.
 fn filter_numbers(file: &File) -> Option<FilterNumbers>
-    ensures { result ≡ filter_numbers_in file.now }
+    ensures { result ≡ stored_filter_numbers file.now }
 {
     match (file.chunk(*b"BIDX"), file.chunk(*b"BDAT")) {
         (Some(_index), Some(body)) => numbers_at(body),
@@ -78,7 +78,7 @@ fn gathered(
     filters: &GraphFilters<'_>,
 ) -> Result<Option<NewFilters>, AllocError>
     requires commits { length filters.now.filters ≡ total graph.now }
-    requires layers { All (λ layer. filter_numbers_in layer ≢ None) graph.now }
+    requires layers { All (λ layer. stored_filter_numbers layer ≢ None) graph.now }
     ensures some { IfOk result (λ found. IfSome found
         (HoldFilters graph.now filters.now.filters)) }
     ensures room { IfOk result (λ found. IfSome found

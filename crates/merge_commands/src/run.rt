@@ -74,7 +74,7 @@ fn merged<T: Folder>(alloc: Global, folder: &mut T, path: &str) -> Result<Vec<u8
 
 /// What a file with the commits of a graph is to have.
 #[derive(Drop)]
-struct Found {
+struct Gathered {
     /// The commits.
     commits: Vec<NewCommit>,
     /// Their changed-path filters, if it is to have filters.
@@ -83,7 +83,11 @@ struct Found {
 
 /// The commits of the graph at the path, which is right, and their filters. Of the graph nothing
 /// else is kept.
-fn find_commits<T: Folder>(alloc: Global, folder: &mut T, path: &str) -> Result<Found, LayerRefusal>
+fn find_commits<T: Folder>(
+    alloc: Global,
+    folder: &mut T,
+    path: &str,
+) -> Result<Gathered, LayerRefusal>
     ensures found { IfOk result (λ found. AreFoundCommits
         (MayOpen (T.tree folder.old) path.now (T.failure_count folder.old)
         (T.failure_count folder.new)) found.commits.items found.filters) }
@@ -100,13 +104,13 @@ fn find_commits<T: Folder>(alloc: Global, folder: &mut T, path: &str) -> Result<
 }
 
 /// The commits of a right graph, and their filters.
-fn gather(alloc: Global, graph: &Checked<'_>) -> Result<Found, AllocError>
+fn gather(alloc: Global, graph: &Checked<'_>) -> Result<Gathered, AllocError>
     ensures commits { IfOk result (λ found.
         AreCommitsOf graph.now.layers found.commits.items) }
     ensures filters { IfOk result (λ found. AreCarried graph.now.layers found.filters) }
     ensures some { OnErr result (0 < total graph.now.layers) }
 {
-    Ok(Found {
+    Ok(Gathered {
         commits: commits_of(alloc, graph)?,
         filters: filters_of(alloc, graph)?,
     })

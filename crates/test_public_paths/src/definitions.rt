@@ -63,7 +63,7 @@ ghost use Rattle.gix_commitgraph.specs.RightLayer.{IsSoundLayer};
 ghost use Rattle.gix_commitgraph.specs.Sound.{Sound};
 ghost use Rattle.gix_commitgraph.specs.StoredHistory.{history_of, node_of};
 ghost use Rattle.gix_commitgraph.specs.Traverse.{FileStats, IsCopyOfLayer, SummarizesLayer};
-ghost use Rattle.gix_commitgraph.specs.Traverse.{cause_of, layer_points};
+ghost use Rattle.gix_commitgraph.specs.Traverse.{traverse_cause, traverse_points};
 ghost use Rattle.gix_commitgraph.specs.TraverseError.{TraverseError};
 ghost use Rattle.gix_commitgraph.specs.Verify.{graph_points, points_with};
 ghost use Rattle.gix_commitgraph.specs.Walks.{CountWalks, IsLongestWalk, Reaches, IsProperAncestor};

@@ -12,8 +12,8 @@ use Rattle.graph_walks.specs.History.{Node, generation_at, parents_at}
 use Rattle.graph_format.specs.StoredHistory.{history_of}
 use Rattle.graph_walks.specs.Generations.{expected_generation}
 use Rattle.graph_walks.specs.Counts.{greatest}
-use Rattle.graph_format.specs.Points.{Point, check, call, first_some, refused, IsRefused, StopsAt, StopsBy, Passes}
-use Rattle.gix_commitgraph.specs.Verify.{ids_refusal, item_refusal, parents_refusal, generation_refusal}
+use Rattle.graph_format.specs.Points.{Point, check, call, first_some, refused, IsRefused, StopsAtCall, StopsBy, PassesAll}
+use Rattle.gix_commitgraph.specs.Verify.{commit_ids_refusal, item_refusal, parents_refusal, generation_refusal}
 use Rattle.gix_commitgraph.specs.Verify.{commit_points, cause_of}
 use Rattle.gix_commitgraph.specs.LayerSpans.{IsSpan, IsInSpan}
 use Rattle.graph_format.specs.declared.Position.{Position}
@@ -71,7 +71,7 @@ cause_of-asked f each false o x found = cc
 
 -- what is found at the ids is no answer of the processor
 cause_of-ids : {E : Type 0} (options : VerifyOptions) (layers : List Layer) (i : ℕ) (layer : Layer) (pos : ℕ) (x : VerifyError E)
-    → Some x ≡ ids_refusal options layers i layer pos → cause_of x ≡ refused x
+    → Some x ≡ commit_ids_refusal options layers i layer pos → cause_of x ≡ refused x
 cause_of-ids {E} options layers i layer pos x found =
     let p = position_of (start layers i + pos) in
     cause_of-otherwise _ _ (cause_of-mapped (error.Commit p) (λ a. refl) (id_fault layer pos))
@@ -109,7 +109,7 @@ module _ {F E : Type 0} (step : F → ℕ → Result (Unit {0}) E → F → Type
   points = commit_points options layers span.layer span.file.now (commit_pos commit)
 
   at_ids : Reaches step points f (
-      check (ids_refusal options layers span.layer span.file.now (commit_pos commit))
+      check (commit_ids_refusal options layers span.layer span.file.now (commit_pos commit))
       ∷ check (parents_refusal layers span.layer span.file.now (commit_pos commit))
       ∷ check (generation_refusal (history_of layers) p)
       ∷ call p
@@ -117,7 +117,7 @@ module _ {F E : Type 0} (step : F → ℕ → Result (Unit {0}) E → F → Type
   at_ids =
       let here : start layers span.layer + commit_pos commit ≡ p = omega (arith, is.start, at.at) in
       let from : ℕ → List (Point (VerifyError E)) = λ q.
-      check (ids_refusal options layers span.layer span.file.now (commit_pos commit))
+      check (commit_ids_refusal options layers span.layer span.file.now (commit_pos commit))
       ∷ check (parents_refusal layers span.layer span.file.now (commit_pos commit))
       ∷ check (generation_refusal (history_of layers) q)
       ∷ call q
@@ -125,13 +125,14 @@ module _ {F E : Type 0} (step : F → ℕ → Result (Unit {0}) E → F → Type
       let P : List (Point (VerifyError E)) → Type 0 = λ rest. Reaches step points f rest f in
       subst P (ap from here) (reached_start step points f)
 
-  pub refused_by_ids : (x : VerifyError E) → Some x ≡ ids_refusal options layers span.layer span.file.now (commit_pos commit)
+  pub refused_by_ids : (x : VerifyError E)
+      → Some x ≡ commit_ids_refusal options layers span.layer span.file.now (commit_pos commit)
       → StopsBy step points f f (cause_of x)
   refused_by_ids x some =
       rw (cause_of-ids options layers span.layer span.file.now (commit_pos commit) x some)
       (refused_at_check step points f _ _ f x (sym some) at_ids)
 
-  module _ (ids : None ≡ ids_refusal {E = E} options layers span.layer span.file.now (commit_pos commit)) where
+  module _ (ids : None ≡ commit_ids_refusal {E = E} options layers span.layer span.file.now (commit_pos commit)) where
     at_parents : Reaches step points f
         (check (parents_refusal layers span.layer span.file.now (commit_pos commit)) ∷ check
         (generation_refusal (history_of layers) p) ∷ call p ∷ []) f
@@ -156,8 +157,8 @@ module _ {F E : Type 0} (step : F → ℕ → Result (Unit {0}) E → F → Type
         at_call : Reaches step points f (call p ∷ []) f
         at_call = reached_past_check step points f _ _ f generation at_generation
 
-        pub stopped_by_processor : (e : E) → step f p (Err e) g → StopsAt step points f g p e
+        pub stopped_by_processor : (e : E) → step f p (Err e) g → StopsAtCall step points f g p e
         stopped_by_processor e called = stopped_at_call step points f p e [] f g called at_call
 
-        pub commit_passed : step f p (Ok tt) g → Passes step points f g
+        pub commit_passed : step f p (Ok tt) g → PassesAll step points f g
         commit_passed called = passed step points f g (reached_past_call step points f p [] f g called at_call)

@@ -12,7 +12,7 @@ use Rattle.graph_format.specs.Points.{Point, check, call, first_some, first_faul
 use Rattle.graph_format.specs.StoredHistory.{history_of}
 use Rattle.graph_walks.specs.History.{Node}
 use Rattle.gix_commitgraph.specs.Graph.{start, stop}
-use Rattle.gix_commitgraph.specs.Verify.{base_refusal, base_ids_refusal, item_refusal, parents_refusal, ids_refusal}
+use Rattle.gix_commitgraph.specs.Verify.{base_refusal, base_ids_refusal, item_refusal, parents_refusal, commit_ids_refusal}
 use Rattle.gix_commitgraph.specs.Verify.{generation_refusal, commit_points, layer_points, points_with}
 use Rattle.graph_format.specs.declared.Position.{Position}
 use Rattle.graph_format.specs.declared.fault.CommitFault.{CommitFault}
@@ -101,7 +101,7 @@ module _ (E : Type 0) (options : VerifyOptions) (layers : List Layer) where
   asked-commit_id : (p : Position) (o : Option CommitFault) → Names Asked (option_map (error.Commit p) o)
   asked-commit_id p o = names-map Asked (error.Commit p) o (λ fault. tt)
 
-  asked-ids : (i : ℕ) (layer : Layer) (pos : ℕ) → Names Asked (ids_refusal {E = E} options layers i layer pos)
+  asked-ids : (i : ℕ) (layer : Layer) (pos : ℕ) → Names Asked (commit_ids_refusal {E = E} options layers i layer pos)
   asked-ids i layer pos =
       names-or Asked _ _ (asked-commit_id _ _)
       (names-or Asked _ _ (asked-id options.distinct_ids (position_of (start layers i + pos)) position_of _)

@@ -13,7 +13,7 @@ use Rattle.graph_format.specs.Layer.{positions_from}
 use Rattle.graph_format.specs.Faults.{layer_fault}
 use Rattle.graph_layer.specs.Called.{CalledOn}
 use Rattle.gix_commitgraph.specs.InGraph.{InGraph}
-use Rattle.graph_format.specs.Points.{Point, check, Cause, refused, StopsBy, Passes}
+use Rattle.graph_format.specs.Points.{Point, check, Cause, refused, StopsBy, PassesAll}
 use Rattle.gix_commitgraph.specs.Verify.{base_at, checksum_at, base_refusal, base_ids_refusal, commit_points, layer_points}
 use Rattle.gix_commitgraph.specs.Verify.{cause_of}
 use Rattle.gix_commitgraph.specs.LayerSpans.{IsInSpan}
@@ -154,13 +154,13 @@ module _ {F E : Type 0} (processor : Mut F (Bor Commit × Unit {0}) (Result (Uni
     stops_at_commit s r =
         stops_in_part _ _ f part (commits_from options layers span.layer span.file.now (q + 1)) g h at_commit s r
 
-    pub reached_next : Passes (CalledOn processor (InGraph layers)) part g h → ReachesCommit (q + 1) h
+    pub reached_next : PassesAll (CalledOn processor (InGraph layers)) part g h → ReachesCommit (q + 1) h
     reached_next passes =
         reached_past_part _ _ f part (commits_from options layers span.layer span.file.now (q + 1)) g h at_commit passes
 
   -- behind the last commit the layer is passed
   pub layer_passed : (q : ℕ) (g : F) → length span.file.now.ids ≤ q → ReachesCommit q g
-      → Passes (CalledOn processor (InGraph layers)) here f g
+      → PassesAll (CalledOn processor (InGraph layers)) here f g
   layer_passed q g past reached =
       let P : List (Point (VerifyError E)) → Type 0 = λ rest. Reaches (CalledOn processor (InGraph layers)) here f rest g in
       passed (CalledOn processor (InGraph layers)) here f g (subst P

@@ -19,7 +19,7 @@ use Rattle.graph_format.specs.Lookup.{Found, scan}
 use Rattle.graph_format.specs.LookupLaw.{IsFirst}
 use Rattle.gix_commitgraph.specs.Graph.{graph_ids, graph_commits, total, start, MakesGraph}
 use Rattle.gix_commitgraph.specs.GraphLookup.{answer_at, first_answer}
-use Rattle.gix_commitgraph.specs.GraphLaw.{LiesIn, LiesInOne, ComesFromLayer, AreCounted, IsOrdered, AreScanned, IsRefusal}
+use Rattle.gix_commitgraph.specs.GraphLaw.{LiesIn, LiesInOne, ComesFromLayer, AreCounted, IsInOrder, AreScanned, IsRefusal}
 use Rattle.gix_commitgraph.specs.GraphLaw.{IsJudged}
 use Rattle.gix_commitgraph.specs.GraphRefusal.{same_kind, kind_at, mismatch_after, mismatch_refusal, graph_refusal}
 use Rattle.graph_format.specs.declared.TheConstants.{MAX_COMMITS}
@@ -128,7 +128,7 @@ counted layers = record {
 }
 
 -- where an ordered layer answers none it has no such id
-nowhere-from : (layer : Layer) (id : List ℕ) → IsOrdered layer → Found layer id None → (i : ℕ) → slice_get layer.ids i ≡ Some id
+nowhere-from : (layer : Layer) (id : List ℕ) → IsInOrder layer → Found layer id None → (i : ℕ) → slice_get layer.ids i ≡ Some id
     → ⊥
 nowhere-from layer id ordered found i here =
     let P : Option ℕ → Type 0 = λ o. IsFirst layer.ids id o in
@@ -136,7 +136,7 @@ nowhere-from layer id ordered found i here =
     first i here
 
 -- and where it answers a position it has none before that
-none-before : (layer : Layer) (id : List ℕ) (pos : ℕ) → IsOrdered layer → Found layer id (Some pos) → (i : ℕ) → i < pos
+none-before : (layer : Layer) (id : List ℕ) (pos : ℕ) → IsInOrder layer → Found layer id (Some pos) → (i : ℕ) → i < pos
     → slice_get layer.ids i ≡ Some id → ⊥
 none-before layer id pos ordered found i h here =
     let P : Option ℕ → Type 0 = λ o. IsFirst layer.ids id o in
@@ -160,7 +160,7 @@ layer-of_id layers id pos here =
     let place = lies-in layers pos within in
     (place.0, place.1, place.2, sym (place-in layers pos place.0 place.1 place.2).id ∙ here)
 
-scanned-none : (layers : List Layer) (id : List ℕ) (answers : List (Option ℕ)) → All IsOrdered layers
+scanned-none : (layers : List Layer) (id : List ℕ) (answers : List (Option ℕ)) → All IsInOrder layers
     → length answers ≡ length layers
     → ((i : ℕ) (layer : Layer) → slice_get layers i ≡ Some layer → Found layer id (answer_at answers i))
     → ((k : ℕ) → k < length answers → answer_at answers k ≡ None) → first_answer layers answers ≡ scan (graph_ids layers) id
@@ -170,11 +170,11 @@ scanned-none layers id answers ordered one_each each nowhere =
     let place = layer-of_id layers id pos here in
     let inside : place.0 < length layers = slice_get_within layers place.0 place.1 place.2.there in
     let P : Option ℕ → Type 0 = λ o. Found place.1 id o in
-    nowhere-from place.1 id (all-at IsOrdered layers place.0 place.1 ordered place.2.there)
+    nowhere-from place.1 id (all-at IsInOrder layers place.0 place.1 ordered place.2.there)
     (subst P (nowhere place.0 (omega (arith, one_each))) (each place.0 place.1 place.2.there)) (pos - start layers place.0)
     place.3))
 
-scanned-some : (layers : List Layer) (id : List ℕ) (answers : List (Option ℕ)) (at pos : ℕ) → All IsOrdered layers
+scanned-some : (layers : List Layer) (id : List ℕ) (answers : List (Option ℕ)) (at pos : ℕ) → All IsInOrder layers
     → length answers ≡ length layers
     → ((i : ℕ) (layer : Layer) → slice_get layers i ≡ Some layer → Found layer id (answer_at answers i)) → at < length answers
     → answer_at answers at ≡ Some pos → ((k : ℕ) → k < at → answer_at answers k ≡ None)
@@ -194,7 +194,7 @@ scanned-some layers id answers at pos ordered one_each each within here before =
     ⊎_elim
     (λ (lower : k < at).
     let Q : Option ℕ → Type 0 = λ o. Found place.1 id o in
-    nowhere-from place.1 id (all-at IsOrdered layers k place.1 ordered place.2.there)
+    nowhere-from place.1 id (all-at IsInOrder layers k place.1 ordered place.2.there)
     (subst Q (before k lower) (each k place.1 place.2.there)) (i - start layers k) place.3)
     (λ (not_lower : at ≤ k). ⊎_elim
     (λ (higher : at < k).
@@ -203,7 +203,7 @@ scanned-some layers id answers at pos ordered one_each each within here before =
     let same : k ≡ at = omega arith in
     let one : place.1 ≡ layer = same_Some place.1 layer (sym place.2.there ∙ ap (slice_get layers) same ∙ there) in
     let at_start : start layers k ≡ start layers at = ap (start layers) same in
-    none-before layer id pos (all-at IsOrdered layers at layer ordered there) found (i - start layers k)
+    none-before layer id pos (all-at IsInOrder layers at layer ordered there) found (i - start layers k)
     (omega (arith, earlier, place.2.from, at_start))
     (ap (λ (l : Layer). slice_get l.ids (i - start layers k)) (sym one) ∙ place.3))
     (cases_lt at k))
@@ -211,7 +211,7 @@ scanned-some layers id answers at pos ordered one_each each within here before =
 
 -- by the first answer that is a position
 scanned-by : (layers : List Layer) (id : List ℕ) (answers : List (Option ℕ)) (first : Option ℕ) → position is_some answers ≡ first
-    → All IsOrdered layers → length answers ≡ length layers
+    → All IsInOrder layers → length answers ≡ length layers
     → ((i : ℕ) (layer : Layer) → slice_get layers i ≡ Some layer → Found layer id (answer_at answers i))
     → first_answer layers answers ≡ scan (graph_ids layers) id
 scanned-by layers id answers None e ordered one_each each =

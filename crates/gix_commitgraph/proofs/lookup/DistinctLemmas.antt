@@ -13,7 +13,7 @@ use Rattle.graph_format.specs.LookupLaw.{IsFirst}
 use Rattle.graph_format.proofs.ScanLemmas.{scan-first, scan-found, scan-none}
 use Rattle.graph_layer.proofs.AscendingIdLemmas.{ascending-less, not-less_itself}
 use Rattle.gix_commitgraph.specs.Graph.{graph_ids, total, start}
-use Rattle.gix_commitgraph.specs.GraphLaw.{LiesIn, IsOrdered}
+use Rattle.gix_commitgraph.specs.GraphLaw.{LiesIn, IsInOrder}
 use Rattle.gix_commitgraph.specs.Distinct.{AreDistinct, AreDistinctBelow}
 use Rattle.gix_commitgraph.proofs.layers.GraphLemmas.{lies-in_one, place-in, counted}
 use Rattle.gix_commitgraph.proofs.layers.LayerListLemmas.{size, start-more, get-front, graph_ids-at}
@@ -87,7 +87,7 @@ apart layers p q j layer id new lies before at_p at_q =
     (ids-front layers j p before ∙ at_p)
 
 -- two positions of one layer that hold one id
-alone : (layers : List Layer) (p q i : ℕ) (layer : Layer) (id : List ℕ) → IsOrdered layer → LiesIn layers p i layer
+alone : (layers : List Layer) (p q i : ℕ) (layer : Layer) (id : List ℕ) → IsInOrder layer → LiesIn layers p i layer
     → LiesIn layers q i layer → p < q
     → slice_get (graph_ids layers) p ≡ Some id → slice_get (graph_ids layers) q ≡ Some id → ⊥
 alone layers p q i layer id ordered first second before at_p at_q =
@@ -97,7 +97,7 @@ alone layers p q i layer id ordered first second before at_p at_q =
     (omega (arith, before, first.from, second.from)))
 
 -- no two positions, one before the other, hold one id
-never : (layers : List Layer) (p q : ℕ) (id : List ℕ) → All IsOrdered layers → AreNew layers → p < q
+never : (layers : List Layer) (p q : ℕ) (id : List ℕ) → All IsInOrder layers → AreNew layers → p < q
     → slice_get (graph_ids layers) p ≡ Some id → slice_get (graph_ids layers) q ≡ Some id → ⊥
 never layers p q id ordered new before at_p at_q =
     let inside : q < total layers = omega (arith, slice_get_within (graph_ids layers) q id at_q, (counted layers).ids) in
@@ -105,13 +105,13 @@ never layers p q id ordered new before at_p at_q =
     (λ (below : p < start layers place.index). apart layers p q place.index place.layer id new place.lies below at_p at_q)
     (λ (from : start layers place.index ≤ p).
     let there = place.lies.there in
-    let here = all-at IsOrdered layers place.index place.layer ordered there in
+    let here = all-at IsInOrder layers place.index place.layer ordered there in
     let lies : LiesIn layers p place.index place.layer =
     record { there = there; from = from; below = omega (arith, before, place.lies.below) } in
     alone layers p q place.index place.layer id here lies place.lies before at_p at_q)
     (cases_lt p (start layers place.index))
 
-pub distinct-from : (layers : List Layer) → All IsOrdered layers → AreNew layers → AreDistinct layers
+pub distinct-from : (layers : List Layer) → All IsInOrder layers → AreNew layers → AreDistinct layers
 distinct-from layers ordered new = λ p q id at_p at_q. ⊎_elim
     (λ (before : p < q). absurd (never layers p q id ordered new before at_p at_q))
     (λ (not_before : q ≤ p). ⊎_elim

@@ -12,7 +12,7 @@ use Rattle.graph_format.specs.Parents.{position_of}
 use Rattle.graph_format.specs.declared.fault.CommitFault.{CommitFault}
 use Rattle.gix_commitgraph.specs.Graph.{graph_ids, total, start}
 use Rattle.gix_commitgraph.specs.GraphLookup.{FoundIn}
-use Rattle.gix_commitgraph.specs.Verify.{duplicate_refusal, ids_refusal}
+use Rattle.gix_commitgraph.specs.Verify.{duplicate_refusal, commit_ids_refusal}
 use Rattle.gix_commitgraph.specs.declared.verify.VerifyError.{VerifyError}
 use Rattle.gix_commitgraph.specs.declared.verify.VerifyError.TheVariants as error
 use Rattle.gix_commitgraph.specs.declared.verify.VerifyOptions.{VerifyOptions}
@@ -81,7 +81,7 @@ module _ {E : Type 0} where
   pub ids-answered : (options : VerifyOptions) (layers : List Layer) (i : ℕ) (layer own : Layer) (pos p : ℕ)
       (id tree : Option CommitFault) (asked : Option (VerifyError E)) → own ≡ layer → p ≡ start layers i + pos
       → id ≡ id_fault own pos → asked ≡ asked_of options layers i layer pos → tree ≡ tree_fault own pos
-      → joined p id asked tree ≡ ids_refusal options layers i layer pos
+      → joined p id asked tree ≡ commit_ids_refusal options layers i layer pos
   ids-answered options layers i layer own pos p id tree asked same is_p id_is asked_is tree_is =
       ap (λ (n : ℕ). joined n id asked tree) is_p
       ∙ ap (λ (fault : Option CommitFault). joined (start layers i + pos) fault asked tree)
@@ -99,7 +99,7 @@ module _ {E : Type 0} where
 
   -- nothing is wrong with the ids of a commit, and no earlier layer has its id where that is asked
   pub ids-none : (options : VerifyOptions) (layers : List Layer) (i : ℕ) (layer : Layer) (pos : ℕ)
-      → (ids_refusal {E = E} options layers i layer pos ≡ None)
+      → (commit_ids_refusal {E = E} options layers i layer pos ≡ None)
       ↔ ((commit_fault layer pos ≡ None) × ((if options.distinct_ids then duplicate_refusal {E = E} layers i layer pos else None)
       ≡ None))
   unfolding commit_fault

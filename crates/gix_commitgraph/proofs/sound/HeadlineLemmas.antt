@@ -4,7 +4,7 @@ use Rattle.std.specs.Prelude.{MatchResult, IfOk, IsTrue}
 use Rattle.graph_format.specs.Layer.{Layer}
 use Rattle.graph_format.specs.Layer.{IsOpened}
 use Rattle.graph_format.specs.StoredHistory.{history_of}
-use Rattle.graph_format.specs.Points.{Point, Agrees, Passes, IsRefused, first_fault}
+use Rattle.graph_format.specs.Points.{Point, Agrees, PassesAll, IsRefused, first_fault}
 use Rattle.gix_commitgraph.specs.Sound.{Sound}
 use Rattle.gix_commitgraph.specs.Verify.{points_with, cause_of, Summarizes}
 use Rattle.gix_commitgraph.specs.Headline.{Stats, LookupsAreScans, Disproves, IsDeserved}
@@ -37,7 +37,7 @@ module _ {F E : Type 0} (step : F → ℕ → Result (Unit {0}) E → F → Type
   refused_deserved : (x : VerifyError E) → IsRefused step points f g x → ¬ IsSoundWith options layers
   refused_deserved x refused sound = sound-not_refused step options layers points whole f g opened sound x refused
 
-  passed_right : Passes step points f g → IsSoundWith options layers
+  passed_right : PassesAll step points f g → IsSoundWith options layers
   passed_right passes = sound-from_passes step options layers points whole f g opened passes
 
   deserved : (x : VerifyError E) → Agrees step points f g {T = Outcome} cause_of (Err x)

@@ -27,7 +27,7 @@ use Rattle.gix_commitgraph.specs.Graph.{graph_ids, total, start, stop}
 use Rattle.gix_commitgraph.specs.Sound.{Sound}
 use Rattle.gix_commitgraph.specs.Statistics.{AreNumbered}
 use Rattle.gix_commitgraph.specs.Tallies.{decoded_at}
-use Rattle.gix_commitgraph.specs.Verify.{duplicate_refusal, generation_refusal, layer_points, layers_from, points_from}
+use Rattle.gix_commitgraph.specs.Verify.{duplicate_refusal, generation_refusal, layer_points, layer_points_from, points_from}
 use Rattle.gix_commitgraph.specs.ListedTallies.{AreWithin}
 use Rattle.gix_commitgraph.specs.Verify.{points_with}
 use Rattle.gix_commitgraph.specs.declared.verify.VerifyError.{VerifyError}
@@ -35,7 +35,7 @@ use Rattle.gix_commitgraph.specs.declared.verify.VerifyError.TheVariants as erro
 use Rattle.gix_commitgraph.specs.declared.verify.VerifyOptions.{VerifyOptions}
 use Rattle.gix_commitgraph.proofs.sound.BaseFaultFreeLemmas.{bases-iff, checksums}
 use Rattle.gix_commitgraph.proofs.lookup.DuplicateLemmas.{take-layer, start-take}
-use Rattle.gix_commitgraph.proofs.check.GraphCheckLemmas.{layers_from-next}
+use Rattle.gix_commitgraph.proofs.check.GraphCheckLemmas.{layer_points_from-next}
 use Rattle.gix_commitgraph.proofs.history.HistoryLemmas.{length-history}
 use Rattle.gix_commitgraph.proofs.history.KnownParentLemmas.{known-within}
 use Rattle.gix_commitgraph.proofs.layers.LayerListLemmas.{get-front, start-more, start-fits}
@@ -154,13 +154,13 @@ module _ {E : Type 0} (options : VerifyOptions) (layers : List Layer) (i : ℕ) 
       }
 
   none-below : (n k : ℕ) → k + n ≡ i
-      → first_fault (layers_from {E = E} options layers k) ≡ first_fault (layers_from {E = E} options layers i)
-  none-below zero k e = ap (λ (m : ℕ). first_fault (layers_from {E = E} options layers m)) (omega arith)
+      → first_fault (layer_points_from {E = E} options layers k) ≡ first_fault (layer_points_from {E = E} options layers i)
+  none-below zero k e = ap (λ (m : ℕ). first_fault (layer_points_from {E = E} options layers m)) (omega arith)
   none-below (suc n) k e =
       ⊎_elim
       (λ (found : (layer : Layer) × (k < length layers) × (slice_get layers k ≡ Some layer) × (get_or layers k layer ≡ layer)).
-      ap first_fault (layers_from-next options layers k found.0 found.2)
-      ∙ first_fault-append (layer_points options layers k found.0) (layers_from options layers (k + 1))
+      ap first_fault (layer_points_from-next options layers k found.0 found.2)
+      ∙ first_fault-append (layer_points options layers k found.0) (layer_points_from options layers (k + 1))
       ((layer_points-iff options layers k found.0).1 (passed-below k found.0 (omega arith) found.2))
       ∙ none-below n (k + 1) (omega arith))
       (λ (past : (length layers ≤ k) × (slice_get layers k ≡ None)). absurd (omega (arith, past.0)))
@@ -169,8 +169,8 @@ module _ {E : Type 0} (options : VerifyOptions) (layers : List Layer) (i : ℕ) 
   -- so the first fault of the layers above them is that of all
   pub whole_fault : first_fault (points_from {E = E} options layers i) ≡ first_fault (points_with {E = E} options layers)
   whole_fault =
-      first_fault-same (error.TooManyFiles when nat_lt 256 (length layers)) (layers_from options layers i)
-      (layers_from options layers 0) (sym (none-below i 0 (omega arith)))
+      first_fault-same (error.TooManyFiles when nat_lt 256 (length layers)) (layer_points_from options layers i)
+      (layer_points_from options layers 0) (sym (none-below i 0 (omega arith)))
 
 -- the generation numbers of a right graph
 pub numbered : (layers : List Layer) → Sound layers → AreNumbered (history_of layers)

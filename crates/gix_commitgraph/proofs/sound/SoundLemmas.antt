@@ -9,14 +9,14 @@ use Rattle.gix_chunk_core.proofs.FirstFaultLemmas.{then_some-false, when-none}
 use Rattle.graph_format.specs.Layer.{Layer}
 use Rattle.gix_commitgraph.specs.Graph.{graph_ids, start}
 use Rattle.graph_format.specs.Layer.{IsOpened}
-use Rattle.gix_commitgraph.specs.GraphLaw.{IsOrdered}
+use Rattle.gix_commitgraph.specs.GraphLaw.{IsInOrder}
 use Rattle.gix_commitgraph.specs.GraphLookup.{FoundIn}
 use Rattle.graph_format.specs.Lookup.{scan}
 use Rattle.graph_walks.specs.History.{generations}
 use Rattle.graph_format.specs.StoredHistory.{history_of}
 use Rattle.graph_walks.specs.Walks.{MatchesLongestWalk}
 use Rattle.graph_format.specs.Faults.{layer_fault, commit_fault, id_at}
-use Rattle.graph_format.specs.Points.{Point, first_fault, Passes, IsRefused}
+use Rattle.graph_format.specs.Points.{Point, first_fault, PassesAll, IsRefused}
 use Rattle.graph_walks.specs.Generations.{longest_path}
 use Rattle.gix_commitgraph.specs.Verify.{base_ids_refusal, duplicate_refusal, parents_refusal, generation_refusal, commit_points}
 use Rattle.gix_commitgraph.specs.Verify.{layer_points, points_with, graph_points, Summarizes}
@@ -39,11 +39,11 @@ use Rattle.gix_commitgraph.proofs.sound.ParentFaultFreeLemmas.{parents-iff, gene
 use Rattle.graph_walks.proofs.WalkLemmas.{counts_from_local, local_from_counts, longest_is_told}
 
 -- the layers of a right graph are ordered
-ordered-right : (layer : Layer) → IsRightLayer layer → IsOrdered layer
+ordered-right : (layer : Layer) → IsRightLayer layer → IsInOrder layer
 ordered-right layer right = (right.ascending, right.fan)
 
-pub ordered-all : (layers : List Layer) → Sound layers → All IsOrdered layers
-ordered-all layers sound = All-weaker IsRightLayer IsOrdered ordered-right layers sound.rules.each
+pub ordered-all : (layers : List Layer) → Sound layers → All IsInOrder layers
+ordered-all layers sound = All-weaker IsRightLayer IsInOrder ordered-right layers sound.rules.each
 
 -- No condition on a commit fails.
 pub record IsPassedCommit (E : Type 0) (options : VerifyOptions) (layers : List Layer) (i : ℕ) (layer : Layer) (pos : ℕ)
@@ -198,7 +198,7 @@ module _ {E : Type 0} where
       record {
         sound = sound;
         distinct = λ is.
-            distinct-from layers (All-weaker IsRightLayer IsOrdered ordered-right layers sound.rules.each)
+            distinct-from layers (All-weaker IsRightLayer IsInOrder ordered-right layers sound.rules.each)
             (record {
               each = λ i layer here pos within. none-asked options.distinct_ids layers i pos layer is
                   ((parts.1 i layer here).commits pos within).asked;
@@ -228,7 +228,7 @@ module _ {E : Type 0} where
   -- the ids of a layer that passes are ordered
   pub ordered-passed : (options : VerifyOptions) (layers : List Layer) (i : ℕ) (layer : Layer) → All IsOpened layers
       → slice_get layers i ≡ Some layer
-      → first_fault (layer_points {E = E} options layers i layer) ≡ None → IsOrdered layer
+      → first_fault (layer_points {E = E} options layers i layer) ≡ None → IsInOrder layer
   ordered-passed options layers i layer opened here none =
       ordered-right layer (right-from_passed options layers i layer (all-at IsOpened layers i layer opened here)
       ((layer_points-iff options layers i layer).0 none))
@@ -239,7 +239,7 @@ module _ {F E : Type 0} (step : F → ℕ → Result (Unit {0}) E → F → Type
     (points : List (Point (VerifyError E))) (whole : first_fault points ≡ first_fault (points_with {E = E} options layers))
     (f g : F) where
   -- only a right graph passes
-  pub sound-from_passes : All IsOpened layers → Passes step points f g → IsSoundWith options layers
+  pub sound-from_passes : All IsOpened layers → PassesAll step points f g → IsSoundWith options layers
   sound-from_passes opened passes = sound_with-from_none {E = E} options layers opened (sym whole ∙ passes.no_fault)
 
   -- and a right graph is never refused
@@ -252,7 +252,7 @@ module _ {F E : Type 0} (step : F → ℕ → Result (Unit {0}) E → F → Type
 pub sound-scanned : (layers : List Layer) (id : List ℕ) (answer : Option ℕ) → Sound layers → FoundIn layers id answer
     → answer ≡ scan (graph_ids layers) id
 sound-scanned layers id answer sound found =
-    scanned layers (All-weaker IsRightLayer IsOrdered ordered-right layers sound.rules.each) id answer found
+    scanned layers (All-weaker IsRightLayer IsInOrder ordered-right layers sound.rules.each) id answer found
 
 -- and what its generation numbers tell of the longest walk is so
 pub sound-longest : (layers : List Layer) → Sound layers

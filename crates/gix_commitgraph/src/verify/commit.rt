@@ -19,7 +19,7 @@ impl Graph {
     ghost use Rattle.gix_commitgraph.specs.InGraph.{InGraph};
     ghost use Rattle.gix_commitgraph.specs.Verify.{commit_points, cause_of};
     ghost use Rattle.gix_commitgraph.specs.Tallies.{IsGathered};
-    ghost use Rattle.gix_commitgraph.specs.GraphLaw.{IsOrdered};
+    ghost use Rattle.gix_commitgraph.specs.GraphLaw.{IsInOrder};
     ghost use Rattle.gix_commitgraph.specs.LayerSpans.{IsSpan, IsInSpan};
 
     /// One commit: its ids, its parents, its generation number, the processor. The answer is the
@@ -38,7 +38,7 @@ impl Graph {
         requires span { IsSpan self.now span }
         requires commit { IsInSpan span commit.now pos.0 }
         requires gathered { IsGathered self.now span (commit_pos commit.now) gathered }
-        requires below { All IsOrdered (take span.layer self.now) }
+        requires below { All IsInOrder (take span.layer self.now) }
         requires callable { (state : F) → TakesAt F.FnMut state commit.now }
         ensures agrees { Agrees (CalledOn F.FnMut (InGraph self.now))
             (commit_points options self.now span.entry.layer span.entry.file.now

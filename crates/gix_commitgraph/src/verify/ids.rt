@@ -16,9 +16,9 @@ impl Graph {
     ghost use Rattle.graph_format.specs.Lookup.{scan};
     ghost use Rattle.graph_layer.specs.Commit.{commit_pos};
     ghost use Rattle.gix_commitgraph.specs.Graph.{graph_ids};
-    ghost use Rattle.gix_commitgraph.specs.GraphLaw.{IsOrdered};
+    ghost use Rattle.gix_commitgraph.specs.GraphLaw.{IsInOrder};
     ghost use Rattle.gix_commitgraph.specs.LayerSpans.{IsSpan, IsInSpan};
-    ghost use Rattle.gix_commitgraph.specs.Verify.{duplicate_refusal, ids_refusal};
+    ghost use Rattle.gix_commitgraph.specs.Verify.{duplicate_refusal, commit_ids_refusal};
 
     /// The ids of a commit: its own, which no layer below has where that is asked, and that of its
     /// root tree.
@@ -31,9 +31,9 @@ impl Graph {
     ) -> Result<(), VerifyError<E>>
         requires span { IsSpan self.now span }
         requires commit { IsInSpan span commit.now pos.0 }
-        requires below { All IsOrdered (take span.layer self.now) }
+        requires below { All IsInOrder (take span.layer self.now) }
         ensures { result_err result
-            ≡ ids_refusal options self.now span.entry.layer span.entry.file.now
+            ≡ commit_ids_refusal options self.now span.entry.layer span.entry.file.now
             (commit_pos commit.now) }
     {
         if let Some(fault) = id_fault(commit) {
@@ -58,7 +58,7 @@ impl Graph {
     ) -> Result<(), VerifyError<E>>
         requires span { IsSpan self.now span }
         requires commit { IsInSpan span commit.now pos.0 }
-        requires below { All IsOrdered (take span.layer self.now) }
+        requires below { All IsInOrder (take span.layer self.now) }
         ensures { result_err result
             ≡ duplicate_refusal self.now span.entry.layer span.entry.file.now
             (commit_pos commit.now) }
@@ -76,7 +76,7 @@ impl Graph {
     /// in each is a plain scan.
     fn find_below(&self, id: oid<'_>, layer: usize) -> Option<Position>
         requires layer { layer ≤ length self.now }
-        requires below { All IsOrdered (take layer self.now) }
+        requires below { All IsInOrder (take layer self.now) }
         ensures { option_map (λ pos. pos.0) result
             ≡ scan (graph_ids (take layer self.now)) (oid_bytes id.entry) }
     {

@@ -21,7 +21,7 @@ impl Graph {
     ghost use Rattle.gix_commitgraph.specs.InGraph.{InGraph};
     ghost use Rattle.gix_commitgraph.specs.Verify.{base_ids_refusal, layer_points, cause_of};
     ghost use Rattle.gix_commitgraph.specs.Statistics.{AreStatistics};
-    ghost use Rattle.gix_commitgraph.specs.GraphLaw.{IsOrdered};
+    ghost use Rattle.gix_commitgraph.specs.GraphLaw.{IsInOrder};
     ghost use Rattle.gix_commitgraph.specs.LayerSpans.{IsSpan};
 
     /// One layer: its base ids, the layer as a whole, and then each commit. Those below it have
@@ -37,7 +37,7 @@ impl Graph {
     where
         F: FnMut(&Commit<'a>) -> Result<(), E>,
         requires span { IsSpan self.now span }
-        requires below { All IsOrdered (take span.layer self.now) }
+        requires below { All IsInOrder (take span.layer self.now) }
         requires callable { MayBeCalled F.FnMut (InGraph self.now) }
         requires statistics { AreStatistics (take span.start (history_of self.now)) statistics.old }
         ensures agrees { Agrees (CalledOn F.FnMut (InGraph self.now))

@@ -145,7 +145,7 @@ impl<'a> Commit<'a> {
     ghost use Rattle.graph_layer.specs.Called.{CalledOn, InLayer};
     ghost use Rattle.graph_layer.specs.Commit.{commit_layer, commit_pos, commit_parents};
     ghost use Rattle.graph_format.specs.Points.{Agrees};
-    ghost use Rattle.graph_layer.specs.Traverse.{commit_points, cause_of};
+    ghost use Rattle.graph_layer.specs.Traverse.{traverse_points_at, traverse_cause};
     ghost use Rattle.graph_layer.specs.ListedParents.{AreListed, IsCount};
 
     /// Checks the commit's ids, calls the processor on it, and decodes its parents, by what was
@@ -161,8 +161,8 @@ impl<'a> Commit<'a> {
         requires callable { (state : F) → TakesAt F.FnMut state self.now }
         requires few { length (commit_parents self.now).positions < 2 ^ 32 }
         ensures agrees { Agrees (CalledOn F.FnMut (InLayer (commit_layer self.now)))
-            (commit_points (commit_layer self.now) (commit_pos self.now))
-            processor.old processor.new cause_of result }
+            (traverse_points_at (commit_layer self.now) (commit_pos self.now))
+            processor.old processor.new traverse_cause result }
         ensures parents { IfOk result (λ parents.
             parents ≡ length (commit_parents self.now).positions) }
     {
@@ -183,7 +183,7 @@ impl<'a> Commit<'a> {
 impl File {
     ghost use Rattle.graph_layer.specs.Called.{MayBeCalled, CalledOn, InLayer};
     ghost use Rattle.graph_format.specs.Points.{Agrees};
-    ghost use Rattle.graph_layer.specs.Traverse.{layer_points, cause_of, FileStats};
+    ghost use Rattle.graph_layer.specs.Traverse.{traverse_points, traverse_cause, FileStats};
 
     /// Checks the layer, and calls the processor on its commits, in the order of their positions.
     ///
@@ -209,8 +209,8 @@ impl File {
     where
         F: FnMut(&Commit<'a>) -> Result<(), E>,
         requires { MayBeCalled F.FnMut (InLayer self.now) }
-        ensures agrees { Agrees (CalledOn F.FnMut (InLayer self.now)) (layer_points self.now)
-            processor.old processor.new cause_of result }
+        ensures agrees { Agrees (CalledOn F.FnMut (InLayer self.now)) (traverse_points self.now)
+            processor.old processor.new traverse_cause result }
         ensures outcome { IfOk result (FileStats self.now) }
     {
         if let Some(fault) = self.layer_fault() {

@@ -1,5 +1,5 @@
-use Rattle.graph_layer.proofs.LayerFaultFreeLemmas.{layer_points-iff}
+use Rattle.graph_layer.proofs.LayerFaultFreeLemmas.{traverse_points-iff}
 use Rattle.graph_layer.proofs.law.a_layer_without_fault_is_right.Goals as goal
 
 pub returns : goal.returns
-returns c h = layer_points-iff
+returns c h = traverse_points-iff

@@ -1,6 +1,6 @@
 use Rattle.std.proofs.Common.{◌≡◌, ◌+◌, ℕ, List, Some, refl, sym, ap, ◌∙◌, arith}
-use Rattle.graph_writer.specs.NewFilters.{filter_numbers_in}
 use Rattle.std.proofs.lemmas.Option.{slice_get_within}
+use Rattle.graph_encoder.specs.StoredNumbers.{stored_filter_numbers}
 use Rattle.graph_encoder.specs.declared.filters.FilterNumbers.{FilterNumbers}
 use Rattle.merge_commands.proofs.CarriedSteps.{size-next, more-filters, no-room, top-is}
 use Rattle.merge_commands.proofs.filters.gathered.Goals as goal
@@ -49,7 +49,7 @@ returns-clause-some c =
           let same : c.index-layers-layers.result ≡ top =
           top-is c.args.graph.now c.layers-layers.result.now c.index-layers-layers.result top c.layers-layers.ensures.same
           c.index-layers-layers.is at in
-          ap filter_numbers_in (sym same)
+          ap stored_filter_numbers (sym same)
           ∙ sym c.filter_numbers.ensures
           ∙ c.in-Some.is
           ∙ ap (λ (n : FilterNumbers). Some n) (sym (inv.numbers ∙ c.new-gathered.ensures.numbers));

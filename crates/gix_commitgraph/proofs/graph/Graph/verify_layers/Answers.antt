@@ -5,7 +5,7 @@ use Rattle.std.proofs.lemmas.Result.{err_from_is_err_and}
 use Rattle.graph_format.proofs.PointLemmas.{ran_out}
 use Rattle.gix_commitgraph.specs.Graph.{IsGraph}
 use Rattle.gix_commitgraph.proofs.history.HistoryLemmas.{take-all}
-use Rattle.gix_commitgraph.specs.GraphLaw.{IsOrdered}
+use Rattle.gix_commitgraph.specs.GraphLaw.{IsInOrder}
 use Rattle.gix_commitgraph.proofs.sound.RightBelowLemmas.{history-below}
 use Rattle.gix_commitgraph.proofs.sound.SoundLemmas.{ordered-passed}
 use Rattle.gix_commitgraph.proofs.check.GraphCheckLemmas.{reached_layers, stops_in_layer, reached_next_layer, graph_passed}
@@ -24,7 +24,7 @@ loop-layer-init g c =
 
 pub verify_layer-requires : goal.verify_layer-requires
 verify_layer-requires g c κs =
-    let below : All IsOrdered (take c.span_at-span.result.layer c.args.self.now) =
+    let below : All IsInOrder (take c.span_at-span.result.layer c.args.self.now) =
     rw c.span_at-span.ensures.layer c.loop-layer.invariant.ordered in (
       search rules,
       (
@@ -70,8 +70,8 @@ loop-layer-preserved g c =
           reached_next_layer g.F.FnMut c.args.options layers c.args.first _ at file there _ _
           c.loop-layer.invariant.reached passes;
       ordered =
-          All-more IsOrdered layers at file (slice_get_within layers at file there) c.loop-layer.invariant.ordered
-          (subst IsOrdered (sym (get_or_from_slice_get layers at file file there)) ordered);
+          All-more IsInOrder layers at file (slice_get_within layers at file there) c.loop-layer.invariant.ordered
+          (subst IsInOrder (sym (get_or_from_slice_get layers at file file there)) ordered);
       statistics = rw (c.span_at-span.ensures.span.stop, c.span_at-span.ensures.layer) at c.in_ok-verify_layer.ensures.statistics;
     }
 
