@@ -87,7 +87,10 @@ from later import Later
 from results import Results
 
 PARTS = [("check_all", None), *(("check_kind", kind) for kind in ID_LENGTH)]
-"""The functions that are called, each with the kind of hash for which it is called, if it is for one. The longest come first."""
+"""The functions that are called, each with the kind of hash for which it is called, if it is for one."""
+
+LONG = {"case_checks", "cgraph_checks", "table_checks", "unchecked_checks", "write_checks"}
+"""The files whose checks take longest. They begin first."""
 
 LONGEST = 12
 """So many of the longest parts are printed at the end with their seconds."""
@@ -97,6 +100,7 @@ def main(paths, every_value, names):
     """Runs all checks, or those of some files, on the programs at these paths, and answers the exit status."""
     results, differences, chosen = Results(), Differences(), names or all_names()
     parts = [(name, *part) for part in PARTS for name in chosen if has(name, part[0])]
+    parts.sort(key=lambda part: part[0] not in LONG)
     later, times = Later(), []
     alone = [part for part in parts if "-" in paths[1:] and not needs_others(part)]
     with ProcessPoolExecutor() as pool:
