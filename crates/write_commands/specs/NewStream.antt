@@ -60,27 +60,46 @@ pub record IsObjectLine (kind : Kind) (line digits : List ℕ) (told : Heading) 
 abbrev pub BeginsWithHead : Kind → List ℕ → List ℕ → Heading → List ℕ → Type 0
 BeginsWithHead kind bytes digits told next = (line : List ℕ) × IsLine bytes line next × IsObjectLine kind line digits told
 
--- why the bytes, of which there are some, do not begin with the entry of a commit: the first reason, in this order
-abbrev pub IsNewEntryError : Kind → List ℕ → NewEntryError → Type 0
-IsNewEntryError kind bytes error.Ends =
-    (0 < length bytes)
-    × ((HasNoFeed bytes × (length bytes < longest_line))
-    ⊎ ((digits next : List ℕ) × (size : ℕ) × BeginsWithHead kind bytes digits (heading.Commit size) next × (length next ≤ size)))
-IsNewEntryError kind bytes error.NoEntry =
+-- the bytes end within an entry: in its line, or in the contents of its commit
+abbrev pub EndsWithinEntry : Kind → List ℕ → Type 0
+EndsWithinEntry kind bytes =
+    (HasNoFeed bytes × (length bytes < longest_line))
+    ⊎ ((digits next : List ℕ) × (size : ℕ) × BeginsWithHead kind bytes digits (heading.Commit size) next × (length next ≤ size))
+
+-- the line is that of no object
+abbrev pub IsNoObjectLine : Kind → List ℕ → Type 0
+IsNoObjectLine kind line = (digits : List ℕ) (told : Heading) → ¬ IsObjectLine kind line digits told
+
+-- the bytes begin with no entry: with a longer line than any has; with that of no object; or with the contents of a commit and no
+-- line feed after them
+abbrev pub BeginsWithNoEntry : Kind → List ℕ → Type 0
+BeginsWithNoEntry kind bytes =
     (HasNoFeed (take longest_line bytes) × (longest_line ≤ length bytes))
-    ⊎ (((line next : List ℕ) × IsLine bytes line next
-    × ((digits : List ℕ) (told : Heading) → ¬ IsObjectLine kind line digits told))
+    ⊎ (((line next : List ℕ) × IsLine bytes line next × IsNoObjectLine kind line)
     ⊎ ((digits next : List ℕ) × (size : ℕ) × BeginsWithHead kind bytes digits (heading.Commit size) next × (size < length next)
     × (slice_index next size ≢ 10)))
-IsNewEntryError kind bytes error.Missing = (digits next : List ℕ) × BeginsWithHead kind bytes digits heading.Missing next
-IsNewEntryError kind bytes error.NotACommit = (digits next : List ℕ) × BeginsWithHead kind bytes digits heading.Other next
-IsNewEntryError kind bytes error.OtherContents =
+
+-- the bytes begin with the entry of a commit whose id is not that of its contents
+abbrev pub BeginsWithOtherContents : Kind → List ℕ → Type 0
+BeginsWithOtherContents kind bytes =
     (digits contents next : List ℕ)
     × BeginsWithHead kind bytes digits (heading.Commit (length contents)) (contents ++ 10 ∷ next)
     × (digits ≢ encode_lower (object_id_of kind contents))
-IsNewEntryError kind bytes error.Unreadable =
+
+-- the bytes begin with the entry of a commit whose contents say nothing
+abbrev pub BeginsWithUnreadable : Kind → List ℕ → Type 0
+BeginsWithUnreadable kind bytes =
     (contents next : List ℕ) × BeginsWithEntry (object_id_of kind contents) bytes contents next
     × ((said : Said) → ¬ Says kind contents said)
+
+-- why the bytes, of which there are some, do not begin with the entry of a commit: the first reason, in this order
+abbrev pub IsNewEntryError : Kind → List ℕ → NewEntryError → Type 0
+IsNewEntryError kind bytes error.Ends = (0 < length bytes) × EndsWithinEntry kind bytes
+IsNewEntryError kind bytes error.NoEntry = BeginsWithNoEntry kind bytes
+IsNewEntryError kind bytes error.Missing = (digits next : List ℕ) × BeginsWithHead kind bytes digits heading.Missing next
+IsNewEntryError kind bytes error.NotACommit = (digits next : List ℕ) × BeginsWithHead kind bytes digits heading.Other next
+IsNewEntryError kind bytes error.OtherContents = BeginsWithOtherContents kind bytes
+IsNewEntryError kind bytes error.Unreadable = BeginsWithUnreadable kind bytes
 
 -- why the bytes are not the entries of commits: those before an entry are, and it is refused. Any read may fail, and memory may
 -- run out for any commit
