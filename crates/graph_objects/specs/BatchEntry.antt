@@ -1,6 +1,6 @@
 -- The entries of `git cat-file --batch` (git-cat-file, "BATCH OUTPUT"): a line with the id, the type and the size, and then the
 -- contents and a line feed; or a line that says that the object is missing.
-use Rattle.std.specs.Prelude.{◌≡◌, ◌≢◌, ◌⊎◌, ◌<◌, ◌^◌, ◌*◌, ◌||◌, ◌&&◌, nat_le, ℕ, Bool, List, [], ◌∷◌, ◌++◌, All}
+use Rattle.std.specs.Prelude.{◌≡◌, ◌≢◌, ◌⊎◌, ◌<◌, ◌≤◌, ◌^◌, ◌*◌, ◌||◌, ◌&&◌, nat_le, ℕ, Bool, List, [], ◌∷◌, ◌++◌, All}
 use Rattle.std.specs.Prelude.{length, take}
 use Rattle.std.specs.Prelude.{slice_index, codes, decimal}
 use Rattle.std.specs.List.{AllPass}
@@ -31,6 +31,14 @@ pub record IsLine (bytes line next : List ℕ) : Type 0 where
   pub whole : bytes ≡ line ++ 10 ∷ next
   pub one : HasNoFeed line
   pub short : length line < longest_line
+
+-- the bytes end before their first line does
+abbrev pub EndsInLine : List ℕ → Type 0
+EndsInLine bytes = HasNoFeed bytes × (length bytes < longest_line)
+
+-- the bytes begin with a longer line than any has
+abbrev pub BeginsWithLongLine : List ℕ → Type 0
+BeginsWithLongLine bytes = HasNoFeed (take longest_line bytes) × (longest_line ≤ length bytes)
 
 -- The first line feed of the bytes stands here, so early that a line ends with it.
 pub record IsLineEnd (bytes : List ℕ) (end : ℕ) : Type 0 where
@@ -72,6 +80,23 @@ IsOtherLine id line _ = ⊥
 pub record IsCommitHead (id bytes : List ℕ) (size : ℕ) (next : List ℕ) : Type 0 where
   pub line : IsLine bytes (line_of_commit id size) next
   pub fits : size < 2 ^ 64
+
+-- behind contents of this size stands another byte than a line feed
+abbrev pub LacksFeedBehind : ℕ → List ℕ → Type 0
+LacksFeedBehind size next = (size < length next) × (slice_index next size ≢ 10)
+
+-- the bytes end within the entry of a commit with this id: in its line, or in its contents
+abbrev pub EndsWithinEntryOf : List ℕ → List ℕ → Type 0
+EndsWithinEntryOf id bytes =
+    EndsInLine bytes ⊎ ((size : ℕ) × (next : List ℕ) × IsCommitHead id bytes size next × (length next ≤ size))
+
+-- the bytes begin with no entry: with a long line; with the line of no object; or with the line of this commit, and contents
+-- without a line feed behind them
+abbrev pub BeginsWithNoEntryFor : List ℕ → List ℕ → Type 0
+BeginsWithNoEntryFor id bytes =
+    BeginsWithLongLine bytes
+    ⊎ (((line : List ℕ) × (next : List ℕ) × IsLine bytes line next × IsOtherLine id line error.NoEntry)
+    ⊎ ((size : ℕ) × (next : List ℕ) × IsCommitHead id bytes size next × LacksFeedBehind size next))
 
 -- The bytes begin with the entry of a commit with this id and these contents, and this is next.
 pub record BeginsWithEntry (id bytes contents next : List ℕ) : Type 0 where

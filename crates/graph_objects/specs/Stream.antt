@@ -1,11 +1,11 @@
 -- A stream of the commits of a graph, and why bytes are none (git-cat-file, "BATCH OUTPUT").
-use Rattle.std.specs.Prelude.{◌≡◌, ◌≢◌, ◌⊎◌, ◌<◌, ◌≤◌, ◌^◌, ℕ, ◌+◌, List, [], ◌++◌, length, take, slice_index}
+use Rattle.std.specs.Prelude.{◌≡◌, ◌≢◌, ◌<◌, ◌≤◌, ◌^◌, ℕ, ◌+◌, List, [], ◌++◌, length}
 use Rattle.std.specs.Prelude.{slice_index_or, All}
 use Rattle.std.specs.List.{AllByRecursion, flat_map, enumerate_from}
 use Rattle.graph_format.specs.Layer.{Layer}
 use Rattle.gix_commitgraph.specs.Graph.{graph_ids}
-use Rattle.graph_objects.specs.BatchEntry.{line_of_commit, commit_entry, longest_line, HasNoFeed, IsLine, IsOtherLine}
-use Rattle.graph_objects.specs.BatchEntry.{IsCommitHead, BeginsWithEntry}
+use Rattle.graph_objects.specs.BatchEntry.{line_of_commit, commit_entry, IsLine, IsOtherLine, IsCommitHead, BeginsWithEntry}
+use Rattle.graph_objects.specs.BatchEntry.{EndsWithinEntryOf, BeginsWithNoEntryFor}
 use Rattle.graph_objects.specs.Matching.{MatchesAt}
 use Rattle.graph_objects.specs.Mismatches.{MismatchesAt}
 use Rattle.graph_objects.specs.declared.error.EntryError.{EntryError}
@@ -38,14 +38,8 @@ IsStreamOf layers first end bytes = IsStreamUpTo layers first end bytes []
 
 -- why the bytes do not begin with the entry of a position that matches: the first reason, in this order
 abbrev pub IsEntryError : List Layer → ℕ → List ℕ → EntryError → Type 0
-IsEntryError layers p bytes Ends =
-    (HasNoFeed bytes × (length bytes < longest_line))
-    ⊎ ((size : ℕ) × (next : List ℕ) × IsCommitHead (graph_id_at layers p) bytes size next × (length next ≤ size))
-IsEntryError layers p bytes NoEntry =
-    (HasNoFeed (take longest_line bytes) × (longest_line ≤ length bytes))
-    ⊎ (((line : List ℕ) × (next : List ℕ) × IsLine bytes line next × IsOtherLine (graph_id_at layers p) line NoEntry)
-    ⊎ ((size : ℕ) × (next : List ℕ) × IsCommitHead (graph_id_at layers p) bytes size next × (size < length next)
-    × (slice_index next size ≢ 10)))
+IsEntryError layers p bytes Ends = EndsWithinEntryOf (graph_id_at layers p) bytes
+IsEntryError layers p bytes NoEntry = BeginsWithNoEntryFor (graph_id_at layers p) bytes
 IsEntryError layers p bytes (Mismatch mismatch) =
     (contents : List ℕ) × (next : List ℕ) × BeginsWithEntry (graph_id_at layers p) bytes contents next
     × MismatchesAt layers p contents mismatch

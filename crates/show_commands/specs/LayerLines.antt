@@ -1,14 +1,13 @@
 -- the lines of a layer: what its file says of itself
-use Rattle.std.specs.Prelude.{ℕ, List, [], ◌∷◌, Bool, length, codes, decimal, Option, Some, None, option_map, is_some, nat_lt}
+use Rattle.std.specs.Prelude.{ℕ, List, [], ◌∷◌, Bool, length, codes, decimal, Option, Some, None, option_map, is_some}
 use Rattle.std.specs.Prelude.{if◌then◌else◌}
 use Rattle.std.specs.List.{flat_map}
 use Rattle.hex.specs.Hex.{encode_lower}
 use Rattle.graph_format.specs.Format.{chunk_of}
-use Rattle.graph_format.specs.Integers.{word_in}
 use Rattle.graph_format.specs.Layer.{Layer, bytes_of}
-use Rattle.graph_format.specs.OptionalChunks.{index_in, data_in}
 use Rattle.graph_commands.specs.Listing.{kind_text}
 use Rattle.graph_commands.specs.Text.{◌⧺◌, newline}
+use Rattle.graph_encoder.specs.StoredNumbers.{stored_filter_numbers}
 use Rattle.graph_encoder.specs.declared.filters.FilterNumbers.{FilterNumbers}
 
 -- the names of the chunks of the format, in the order in which Git writes them ("CHUNK DATA")
@@ -21,21 +20,6 @@ chunk_names =
 abbrev pub chunk_size : Layer → List ℕ → Option ℕ
 chunk_size layer name = option_map length (chunk_of (bytes_of layer) name)
 
--- the three numbers before the filters: the version of the hash, how often a path is hashed, and the least number of bits of a
--- path ("Bloom Filter Data"); none where there are not twelve bytes
-abbrev pub filter_numbers_of : List ℕ → Option FilterNumbers
-filter_numbers_of body =
-    if nat_lt (length body) 12 then None
-    else Some (record { version = word_in body 0; hashes = word_in body 1; bits_per_entry = word_in body 2 })
-
--- those of a layer, which has filters where it has both chunks of them
-abbrev pub filter_numbers_with : Option (List ℕ) → Option (List ℕ) → Option FilterNumbers
-filter_numbers_with (Some index) (Some body) = filter_numbers_of body
-filter_numbers_with index body = None
-
-abbrev pub filter_numbers_in : Layer → Option FilterNumbers
-filter_numbers_in layer = filter_numbers_with (index_in layer) (data_in layer)
-
 -- whether something is there
 abbrev pub yes_or_no : Bool → List ℕ
 yes_or_no is_there = if is_there then codes "yes" else codes "no"
@@ -44,7 +28,8 @@ yes_or_no is_there = if is_there then codes "yes" else codes "no"
 abbrev pub dates_word : Layer → List ℕ
 dates_word layer = yes_or_no (is_some (chunk_size layer (codes "GDA2")))
 
--- how the filters of a layer are made, or that it has none
+-- how the filters of a layer are made ("Bloom Filter Data"): the version of the hash, how often a path is hashed, and the least
+-- number of bits of a path; or that it has none
 abbrev pub filter_numbers_text : Option FilterNumbers → List ℕ
 filter_numbers_text (Some numbers) =
     codes "version " ⧺ decimal numbers.version ⧺ codes " hashes " ⧺ decimal numbers.hashes
@@ -56,7 +41,7 @@ abbrev pub counts_line : ℕ → Layer → List ℕ
 counts_line i layer =
     codes "layer " ⧺ decimal i ⧺ codes " commits " ⧺ decimal (length layer.ids) ⧺ codes " hash " ⧺ kind_text layer.kind
     ⧺ codes " bases " ⧺ decimal (length layer.bases) ⧺ codes " dates " ⧺ dates_word layer
-    ⧺ codes " filters " ⧺ filter_numbers_text (filter_numbers_in layer) ⧺ newline
+    ⧺ codes " filters " ⧺ filter_numbers_text (stored_filter_numbers layer) ⧺ newline
 
 -- the line of its checksum
 abbrev pub checksum_line : Layer → List ℕ

@@ -5,8 +5,8 @@ ghost use Rattle.std.specs.Io.KnownBytes.{Appends};
 ghost use Rattle.graph_format.specs.Format.{chunk_of};
 ghost use Rattle.graph_format.specs.Layer.{bytes_of};
 ghost use Rattle.graph_commands.specs.Listing.{kind_text};
-ghost use Rattle.show_commands.specs.LayerLines.{counts_line, dates_word, filter_numbers_in};
-ghost use Rattle.show_commands.specs.LayerLines.{filter_numbers_of, layer_lines};
+ghost use Rattle.graph_encoder.specs.StoredNumbers.{numbers_at_head, stored_filter_numbers};
+ghost use Rattle.show_commands.specs.LayerLines.{counts_line, dates_word, layer_lines};
 
 use gix_commitgraph::File;
 use gix_hash_core::Kind;
@@ -83,8 +83,9 @@ const NUMBERS_LEN: usize = 12;
 
 /// The numbers before the filters of a layer, `None` where it has no filters, or their data is too
 /// short.
+#[tactic(auto, unfolding(graph_encoder::specs::StoredNumbers::stored_filter_numbers))]
 fn filter_numbers(file: &File) -> Option<FilterNumbers>
-    ensures { result ≡ filter_numbers_in file.now }
+    ensures { result ≡ stored_filter_numbers file.now }
 {
     match (file.chunk(*b"BIDX"), file.chunk(*b"BDAT")) {
         (Some(_index), Some(body)) => filter_numbers_of(body),
@@ -94,7 +95,7 @@ fn filter_numbers(file: &File) -> Option<FilterNumbers>
 
 /// The numbers with which these bytes begin, if there are enough.
 fn filter_numbers_of(body: &[u8]) -> Option<FilterNumbers>
-    ensures { result ≡ filter_numbers_of body.now }
+    ensures { result ≡ numbers_at_head body.now }
 {
     if body.len() < NUMBERS_LEN {
         return None;

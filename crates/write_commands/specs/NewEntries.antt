@@ -6,12 +6,12 @@ use Rattle.gix_hash_core.specs.Kind.{id_len}
 use Rattle.gix_hash_core.specs.declared.kind.Kind.{Kind}
 use Rattle.graph_objects.specs.BatchEntry.{BeginsWithEntry}
 use Rattle.graph_objects.specs.Taking.{BothKnown}
-use Rattle.graph_objects.specs.declared.heading.Heading.{Heading}
 use Rattle.graph_objects.specs.declared.heading.Heading.TheVariants as heading
 use Rattle.commit_objects.specs.CommitContents.{Said, Says}
 use Rattle.commit_objects.specs.Object.{object_id_of}
 use Rattle.graph_writer.specs.declared.commit.NewCommit.{NewCommit}
-use Rattle.write_commands.specs.NewStream.{BeginsWithCommits, BeginsWithHead, IsObjectLine, IsNewEntryError, IsReadCommit}
+use Rattle.write_commands.specs.NewStream.{BeginsWithCommits, BeginsWithHead, IsObjectLine, IsNoObjectLine, IsNewEntryError}
+use Rattle.write_commands.specs.NewStream.{IsReadCommit}
 use Rattle.layer_refusals.specs.declared.error.CommitsError.{CommitsError}
 use Rattle.layer_refusals.specs.declared.error.CommitsError.TheVariants.{Entry, Device, OutOfMemory}
 use Rattle.layer_refusals.specs.declared.error.NewEntryError.{NewEntryError}
@@ -49,7 +49,7 @@ IsReadFailure OutOfMemory = ⊤
 
 -- why a line is not that of a commit
 abbrev pub IsNoCommitLine : Kind → List ℕ → NewEntryError → Type 0
-IsNoCommitLine kind line error.NoEntry = (digits : List ℕ) (told : Heading) → ¬ IsObjectLine kind line digits told
+IsNoCommitLine kind line error.NoEntry = IsNoObjectLine kind line
 IsNoCommitLine kind line error.Missing = (digits : List ℕ) × IsObjectLine kind line digits heading.Missing
 IsNoCommitLine kind line error.NotACommit = (digits : List ℕ) × IsObjectLine kind line digits heading.Other
 IsNoCommitLine kind line fault = ⊥

@@ -1,6 +1,6 @@
 -- Which commits a stream says that `git cat-file --batch` wrote of commits (git-cat-file, "BATCH OUTPUT"), and why it says none.
 use Rattle.std.specs.Prelude.{◌≡◌, ◌≢◌, ◌⊎◌, ◌&&◌, ◌<◌, ◌≤◌, ◌^◌, ◌*◌, ℕ, List, [], ◌∷◌, ◌++◌, All, Option, ⊤}
-use Rattle.std.specs.Prelude.{length, take, slice_index, nat_le, unwrap_or, if◌then◌else◌}
+use Rattle.std.specs.Prelude.{length, take, nat_le, unwrap_or, if◌then◌else◌}
 use Rattle.std.specs.List.{AllPass, AllZip, flat_map, list_all}
 use Rattle.hex.specs.Hex.{encode_lower}
 use Rattle.gix_hash_core.specs.Kind.{id_len}
@@ -9,8 +9,8 @@ use Rattle.gix_hash_core.specs.declared.kind.Kind.TheVariants.{Sha1, Sha256}
 use Rattle.commit_objects.specs.CommitContents.{Said, Says}
 use Rattle.commit_objects.specs.Object.{object_id_of}
 use Rattle.commit_objects.specs.Time.{newer_time}
-use Rattle.graph_objects.specs.BatchEntry.{commit_entry, longest_line, is_lower_digit, HasNoFeed, IsLine, IsTail}
-use Rattle.graph_objects.specs.BatchEntry.{BeginsWithEntry}
+use Rattle.graph_objects.specs.BatchEntry.{commit_entry, is_lower_digit, EndsInLine, BeginsWithLongLine, LacksFeedBehind}
+use Rattle.graph_objects.specs.BatchEntry.{BeginsWithEntry, IsLine, IsTail}
 use Rattle.graph_objects.specs.declared.heading.Heading.{Heading}
 use Rattle.graph_objects.specs.declared.heading.Heading.TheVariants as heading
 use Rattle.graph_writer.specs.declared.commit.NewCommit.{NewCommit}
@@ -60,27 +60,46 @@ pub record IsObjectLine (kind : Kind) (line digits : List ℕ) (told : Heading) 
 abbrev pub BeginsWithHead : Kind → List ℕ → List ℕ → Heading → List ℕ → Type 0
 BeginsWithHead kind bytes digits told next = (line : List ℕ) × IsLine bytes line next × IsObjectLine kind line digits told
 
--- why the bytes, of which there are some, do not begin with the entry of a commit: the first reason, in this order
-abbrev pub IsNewEntryError : Kind → List ℕ → NewEntryError → Type 0
-IsNewEntryError kind bytes error.Ends =
-    (0 < length bytes)
-    × ((HasNoFeed bytes × (length bytes < longest_line))
-    ⊎ ((digits next : List ℕ) × (size : ℕ) × BeginsWithHead kind bytes digits (heading.Commit size) next × (length next ≤ size)))
-IsNewEntryError kind bytes error.NoEntry =
-    (HasNoFeed (take longest_line bytes) × (longest_line ≤ length bytes))
-    ⊎ (((line next : List ℕ) × IsLine bytes line next
-    × ((digits : List ℕ) (told : Heading) → ¬ IsObjectLine kind line digits told))
-    ⊎ ((digits next : List ℕ) × (size : ℕ) × BeginsWithHead kind bytes digits (heading.Commit size) next × (size < length next)
-    × (slice_index next size ≢ 10)))
-IsNewEntryError kind bytes error.Missing = (digits next : List ℕ) × BeginsWithHead kind bytes digits heading.Missing next
-IsNewEntryError kind bytes error.NotACommit = (digits next : List ℕ) × BeginsWithHead kind bytes digits heading.Other next
-IsNewEntryError kind bytes error.OtherContents =
+-- the bytes end within an entry: in its line, or in the contents of its commit
+abbrev pub EndsWithinEntry : Kind → List ℕ → Type 0
+EndsWithinEntry kind bytes =
+    EndsInLine bytes
+    ⊎ ((digits next : List ℕ) × (size : ℕ) × BeginsWithHead kind bytes digits (heading.Commit size) next × (length next ≤ size))
+
+-- the line is that of no object
+abbrev pub IsNoObjectLine : Kind → List ℕ → Type 0
+IsNoObjectLine kind line = (digits : List ℕ) (told : Heading) → ¬ IsObjectLine kind line digits told
+
+-- the bytes begin with no entry: with a long line; with the line of no object; or with the line of a commit, and contents without
+-- a line feed behind them
+abbrev pub BeginsWithNoEntry : Kind → List ℕ → Type 0
+BeginsWithNoEntry kind bytes =
+    BeginsWithLongLine bytes
+    ⊎ (((line next : List ℕ) × IsLine bytes line next × IsNoObjectLine kind line)
+    ⊎ ((digits next : List ℕ) × (size : ℕ) × BeginsWithHead kind bytes digits (heading.Commit size) next
+    × LacksFeedBehind size next))
+
+-- the bytes begin with the entry of a commit whose id is not that of its contents
+abbrev pub BeginsWithOtherContents : Kind → List ℕ → Type 0
+BeginsWithOtherContents kind bytes =
     (digits contents next : List ℕ)
     × BeginsWithHead kind bytes digits (heading.Commit (length contents)) (contents ++ 10 ∷ next)
     × (digits ≢ encode_lower (object_id_of kind contents))
-IsNewEntryError kind bytes error.Unreadable =
+
+-- the bytes begin with the entry of a commit whose contents say nothing
+abbrev pub BeginsWithUnreadable : Kind → List ℕ → Type 0
+BeginsWithUnreadable kind bytes =
     (contents next : List ℕ) × BeginsWithEntry (object_id_of kind contents) bytes contents next
     × ((said : Said) → ¬ Says kind contents said)
+
+-- why the bytes, of which there are some, do not begin with the entry of a commit: the first reason, in this order
+abbrev pub IsNewEntryError : Kind → List ℕ → NewEntryError → Type 0
+IsNewEntryError kind bytes error.Ends = (0 < length bytes) × EndsWithinEntry kind bytes
+IsNewEntryError kind bytes error.NoEntry = BeginsWithNoEntry kind bytes
+IsNewEntryError kind bytes error.Missing = (digits next : List ℕ) × BeginsWithHead kind bytes digits heading.Missing next
+IsNewEntryError kind bytes error.NotACommit = (digits next : List ℕ) × BeginsWithHead kind bytes digits heading.Other next
+IsNewEntryError kind bytes error.OtherContents = BeginsWithOtherContents kind bytes
+IsNewEntryError kind bytes error.Unreadable = BeginsWithUnreadable kind bytes
 
 -- why the bytes are not the entries of commits: those before an entry are, and it is refused. Any read may fail, and memory may
 -- run out for any commit
