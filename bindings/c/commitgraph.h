@@ -214,7 +214,7 @@ typedef struct cg_known {
 /* Why no graph was opened at a path. `code` is
  *   CG_OK                     where one was opened;
  *   CG_PATH_NOT_UTF8          where the path is not UTF-8;
- *   CG_PATH_WANTED            where it has to be known what stands at one more path: the call is made again then;
+ *   CG_PATH_WANTED            where nothing is known of a path at which it has to be known what stands: the call is made again then;
  *   CG_OPEN_NOTHING_FOUND     where neither a file nor a folder is at the path: from CG_ANYTHING alone;
  *   CG_OPEN_NOT_OPENED        where a file that is to be read is not there, or CG_UNOPENED;
  *   CG_OPEN_READ_FAILED       where it is CG_UNREAD;
@@ -222,8 +222,9 @@ typedef struct cg_known {
  *   101 to 199                where the file of `layer` is no layer;
  *   201 to 299                where the layers make no graph, as in cg_error;
  *   CG_OUT_OF_MEMORY          where memory ran out, or a file that is to be read is CG_NO_MEMORY: no other file is tried then.
- * `layer` is 0 elsewhere. `length` is that of the path that is told: the one that is wanted, or that of the file that was to be
- * read last; 0 where none was. */
+ * `layer` is 0 elsewhere. `length` is that of the path that is told: the one that is wanted, or that of the file that was not read
+ * or is refused; from CG_OPEN_CHAIN_NOT_TEXT, and where the layers of a chain make no graph, that of the chain file. It is 0 where
+ * there is none: from CG_OPEN_NOTHING_FOUND, and where memory ran out in the library. */
 typedef struct cg_path_error { uint32_t code; uint64_t layer, length; } cg_path_error;
 
 /* Opens the graph at a path, as the programs do, of what the caller knows of paths: who has none of them learns by CG_PATH_WANTED
@@ -233,13 +234,16 @@ typedef struct cg_path_error { uint32_t code; uint64_t layer, length; } cg_path_
  *   CG_INFO_FOLDER     in most repositories .git/objects/info: its file commit-graph, or where that is not opened the chain in its
  *                      folder commit-graphs. Where neither is, the error is that of the chain;
  *   CG_ANYTHING        and any other number: a file, a folder with a file commit-graph-chain, or an info folder.
- * A path that is wanted begins with the path that is asked for, and follows it after a slash; of the empty path it stands alone. So
+ * A path that is wanted is none of those that are known, and what is known of the others does not say whether a graph is opened: of
+ * a chain it is that of its chain file, or of the first layer that was not read, where those before it are layers. It begins with
+ * the path that is asked for, and follows it after a slash; of the empty path it stands alone. So
  * who looks below a folder of their own may ask for the empty path, and the folder's need not be UTF-8. Of two that are known of
  * one path the first counts. What is known of paths that nothing asks for is not looked at: since the layers before a wanted one
  * are opened at each call, a caller does well to add all layers of a chain at once (cg_chain_line).
  *
- * On CG_OK *out is the graph, which is the caller's to close, and which no check has seen: see cg_check; the bytes are copied. Else
- * *out is left as it was, and `file` gets the path that is told, as much of it as there is room for. */
+ * On CG_OK *out is the graph that the bytes make which were handed in, which is the caller's to close, and which no check has seen:
+ * see cg_check; the bytes are copied. Else *out is left as it was, and `file` gets the path that is told, as much of it as there is
+ * room for. */
 cg_path_error cg_open_known(const char *path, size_t path_len, uint32_t what, const cg_known *known, size_t count,
                             char *file, size_t file_len, cg_graph *out);
 

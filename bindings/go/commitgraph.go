@@ -356,7 +356,7 @@ func read(path string) ([]byte, C.uint32_t, error) {
 	return bytes, C.CG_READ, nil
 }
 
-// refusal says why no graph was opened; the file was the last that was to be read.
+// refusal says why no graph was opened; the file is the one that it is about.
 func (p *paths) refusal(told C.cg_path_error, file string) error {
 	if told.code == C.CG_OPEN_NOT_OPENED || told.code == C.CG_OPEN_READ_FAILED {
 		for _, it := range p.known {

@@ -3,5 +3,8 @@ mod AtPath
 mod Called
 mod Crossing
 mod Files
+mod KnownAnswers
+mod KnownTree
+mod ToldPath
 pub mod PieceRoom
 pub mod Written

@@ -1,7 +1,8 @@
 //! What a caller knows of paths, in the place of a file system.
 
-ghost use Rattle.std.specs.Prelude.{◌≡◌, None};
-ghost use Rattle.graph_folder.specs.Failures.{failures_after};
+ghost use Rattle.std.specs.Prelude.{◌≡◌, Some, option_copied};
+ghost use Rattle.graph_folder.specs.Tree.{file_at, is_file};
+ghost use Rattle.c_opening.specs.Known.{is_known_file, known_at, known_tree};
 
 use graph_folder::folder::{Folder, ReadError};
 use std::alloc::{AllocError, Global};
@@ -18,137 +19,84 @@ pub struct CgKnown<'a> {
     pub kind: u32,
 }
 
-/// Paths of which something is known. The first path that is asked for and is not known ends what
-/// is done, as if memory had run out, and is noted.
-#[derive(Drop)]
-pub(crate) struct Known<'k, 'a> {
-    known: &'k [CgKnown<'a>],
-    failures: u64,
-    is_wanting: bool,
-    asked: Vec<u8>,
+/// What is known of a path: of two that are known of it, the first.
+pub(crate) fn find<'k, 'a>(known: &'k [CgKnown<'a>], path: &[u8]) -> Option<&'k CgKnown<'a>>
+    ensures { option_copied result ≡ known_at known.now path.now }
+{
+    known.iter().find(|there| there.path == path)
 }
 
-impl<'k, 'a> Known<'k, 'a> {
-    /// These paths are known. Nothing was asked for yet.
-    pub fn new(alloc: Global, known: &'k [CgKnown<'a>]) -> Known<'k, 'a> {
-        Known {
-            known,
-            failures: 0,
-            is_wanting: false,
-            asked: Vec::new(alloc),
-        }
-    }
+/// Whether this is known of a file, which was read or was not.
+pub(crate) fn is_known_file(known: &CgKnown<'_>) -> bool
+    ensures { result ≡ is_known_file known.now }
+{
+    known.kind != 0 && known.kind != 2
+}
 
-    /// Whether a path was asked for that is not known.
-    pub fn is_wanting(&self) -> bool {
-        self.is_wanting
-    }
-
-    /// The path that was asked for last, as a file that was to be read or because it is not known.
-    pub fn asked(&self) -> &[u8] {
-        self.asked.as_slice()
-    }
-
-    /// What is known of a path.
-    fn find(&self, path: &str) -> Option<CgKnown<'a>> {
-        for known in self.known {
-            if known.path == path.as_bytes() {
-                return Some(*known);
-            }
-        }
+/// The bytes of the file at a path, if it was read.
+#[tactic(auto, using(crate::proofs::KnownTree::known_laws))]
+pub(crate) fn read_bytes<'a>(known: &[CgKnown<'a>], path: &[u8]) -> Option<&'a [u8]>
+    ensures { option_copied result ≡ file_at (known_tree known.now) path.now }
+{
+    let there = find(known, path)?;
+    if there.kind == 1 {
+        Some(there.bytes)
+    } else {
         None
     }
+}
 
-    /// What is known of a path. Where that is nothing, the path is noted.
-    fn look(&mut self, alloc: Global, path: &str) -> Result<CgKnown<'a>, AllocError>
-        ensures { self.new.failures ≡ self.old.failures }
-    {
-        match self.find(path) {
-            Some(known) => Ok(known),
-            None => {
-                self.note(alloc, path)?;
-                self.is_wanting = true;
-                Err(AllocError)
-            }
-        }
-    }
+/// Whether the file at a path was read.
+pub(crate) fn is_read(known: &[CgKnown<'_>], path: &[u8]) -> bool
+    ensures { result ≡ is_file (known_tree known.now) path.now }
+{
+    read_bytes(known, path).is_some()
+}
 
-    /// Notes a path.
-    fn note(&mut self, alloc: Global, path: &str) -> Result<(), AllocError>
-        ensures { self.new.failures ≡ self.old.failures }
-    {
-        let mut asked = Vec::new(alloc);
-        asked.extend_from_slice(path.as_bytes())?;
-        self.asked = asked;
-        Ok(())
-    }
+/// The files that were read, for the openers.
+#[derive(Drop)]
+pub(crate) struct KnownFiles<'k, 'a> {
+    known: &'k [CgKnown<'a>],
+}
 
-    /// The bytes of the file at a path, which is noted.
-    fn read_file(&mut self, alloc: Global, path: &str) -> Result<Vec<u8>, ReadError>
-        ensures { self.new.failures ≡ self.old.failures }
+impl<'k, 'a> KnownFiles<'k, 'a> {
+    /// Those among what is known.
+    pub fn new(known: &'k [CgKnown<'a>]) -> KnownFiles<'k, 'a>
+        ensures { result.known.now ≡ known.now }
     {
-        if self.note(alloc, path).is_err() {
-            return Err(ReadError::OutOfMemory);
-        }
-        match self.look(alloc, path) {
-            Ok(known) => bytes_of(alloc, known),
-            Err(_) => Err(ReadError::OutOfMemory),
-        }
-    }
-
-    /// Counts a read with this answer, if it is one that the device failed.
-    fn count_failure<T>(&mut self, answer: &Result<T, ReadError>)
-        ensures { self.new.failures ≡ failures_after answer.now self.old.failures }
-    {
-        if let Err(ReadError::Device) = answer {
-            self.failures = self.failures.saturating_add(1);
-        }
+        KnownFiles { known }
     }
 }
 
-impl<'k, 'a> Folder for Known<'k, 'a> {
-    ghost tree = { λ _. None };
+impl<'k, 'a> Folder for KnownFiles<'k, 'a> {
+    ghost tree = { λ files. Some (known_tree files.known.now) };
 
-    ghost failure_count = { λ known. known.failures };
+    ghost failure_count = { λ _. 0 };
 
-    /// How many reads of known files have failed so far.
+    /// None fails: a file of which a read failed does not stand here.
     fn failures(&self) -> u64 {
-        self.failures
+        0
     }
 
-    /// Whether a file is known to stand at the path. `AllocError` comes where nothing is known of
-    /// it.
-    fn is_file(&mut self, alloc: Global, path: &str) -> Result<bool, AllocError> {
-        let kind = self.look(alloc, path)?.kind;
-        Ok(kind != 0 && kind != 2)
+    /// Whether the file at the path was read. `AllocError` never comes.
+    fn is_file(&mut self, _alloc: Global, path: &str) -> Result<bool, AllocError> {
+        Ok(is_read(self.known, path.as_bytes()))
     }
 
-    /// Whether a folder is known to stand at the path. `AllocError` comes as in `is_file`.
-    fn is_dir(&mut self, alloc: Global, path: &str) -> Result<bool, AllocError> {
-        Ok(self.look(alloc, path)?.kind == 2)
+    /// No folder stands here.
+    #[tactic(auto, using(crate::proofs::KnownTree::known_laws))]
+    fn is_dir(&mut self, _alloc: Global, _path: &str) -> Result<bool, AllocError> {
+        Ok(false)
     }
 
-    /// All bytes of the file at the path. `OutOfMemory` comes also where nothing is known of it.
+    /// A copy of the bytes of the file at the path. `NotOpened` comes where it was not read.
     fn read(&mut self, alloc: Global, path: &str) -> Result<Vec<u8>, ReadError> {
-        let answer = self.read_file(alloc, path);
-        self.count_failure(&answer);
-        answer
+        match read_bytes(self.known, path.as_bytes()) {
+            Some(bytes) => match Vec::from_slice(alloc, bytes) {
+                Ok(copy) => Ok(copy),
+                Err(_) => Err(ReadError::OutOfMemory),
+            },
+            None => Err(ReadError::NotOpened),
+        }
     }
-}
-
-/// A copy of the bytes of a file, or why it was not read.
-fn bytes_of(alloc: Global, known: CgKnown<'_>) -> Result<Vec<u8>, ReadError> {
-    match known.kind {
-        1 => copy(alloc, known.bytes).map_err(|_| ReadError::OutOfMemory),
-        4 => Err(ReadError::Device),
-        5 => Err(ReadError::OutOfMemory),
-        _ => Err(ReadError::NotOpened),
-    }
-}
-
-/// A copy of bytes.
-fn copy(alloc: Global, bytes: &[u8]) -> Result<Vec<u8>, AllocError> {
-    let mut copy = Vec::with_capacity(alloc, bytes.len())?;
-    copy.extend_from_slice(bytes)?;
-    Ok(copy)
 }

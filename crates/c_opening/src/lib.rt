@@ -6,6 +6,7 @@
 //! `cg_close` frees. No call has a `requires`: what is wrong is answered with a code.
 #![tactic(auto)]
 
+mod at_path;
 pub mod check;
 mod check_within;
 pub mod codes;

@@ -125,6 +125,7 @@ pub fn cg_check(
     ensures refused { result ≢ 0 → IfSome graph.address.held (λ was.
         TellsRefusal (options_of distinct_ids) was.0 verdict.new
         ⊎ (verdict.new ≡ told_unopened (told_graph GraphError.OutOfMemory))) }
+    ensures uncalled { result ≢ 0 → verdict.new.called ≡ 0 }
     ensures closed { IfNone graph.address.held (verdict.new ≡ closed_verdict) }
     ensures kept { result ≢ 0 → (out.new ≡ out.old) × (counts.new ≡ counts.old) }
 {

@@ -97,6 +97,7 @@ impl Opened {
             State::Checked(graph) => Some(graph.as_checked()),
         }
     }
+
     /// Looks for a shortest walk as [`Checked::ancestor_walk`] does, in a graph that was checked.
     ///
     /// # Errors
