@@ -241,7 +241,7 @@ typedef struct cg_path_error { uint32_t code; uint64_t layer, length; } cg_path_
  * one path the first counts. What is known of paths that nothing asks for is not looked at: since the layers before a wanted one
  * are opened at each call, a caller does well to add all layers of a chain at once (cg_chain_line).
  *
- * On CG_OK *out is the graph that the bytes make which were handed in, which is the caller's to close, and which no check has seen:
+ * On CG_OK *out is the graph of the bytes that were handed in. It is the caller's to close, and no check has seen it:
  * see cg_check; the bytes are copied. Else *out is left as it was, and `file` gets the path that is told, as much of it as there is
  * room for. */
 cg_path_error cg_open_known(const char *path, size_t path_len, uint32_t what, const cg_known *known, size_t count,

@@ -81,10 +81,6 @@ pub record IsCommitHead (id bytes : List ℕ) (size : ℕ) (next : List ℕ) : T
   pub line : IsLine bytes (line_of_commit id size) next
   pub fits : size < 2 ^ 64
 
--- behind contents of this size stands another byte than a line feed
-abbrev pub LacksFeedBehind : ℕ → List ℕ → Type 0
-LacksFeedBehind size next = (size < length next) × (slice_index next size ≢ 10)
-
 -- the bytes end within the entry of a commit with this id: in its line, or in its contents
 abbrev pub EndsWithinEntryOf : List ℕ → List ℕ → Type 0
 EndsWithinEntryOf id bytes =
@@ -96,7 +92,7 @@ abbrev pub BeginsWithNoEntryFor : List ℕ → List ℕ → Type 0
 BeginsWithNoEntryFor id bytes =
     BeginsWithLongLine bytes
     ⊎ (((line : List ℕ) × (next : List ℕ) × IsLine bytes line next × IsOtherLine id line error.NoEntry)
-    ⊎ ((size : ℕ) × (next : List ℕ) × IsCommitHead id bytes size next × LacksFeedBehind size next))
+    ⊎ ((size : ℕ) × (next : List ℕ) × IsCommitHead id bytes size next × (size < length next) × (slice_index next size ≢ 10)))
 
 -- The bytes begin with the entry of a commit with this id and these contents, and this is next.
 pub record BeginsWithEntry (id bytes contents next : List ℕ) : Type 0 where

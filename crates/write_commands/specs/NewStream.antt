@@ -1,6 +1,6 @@
 -- Which commits a stream says that `git cat-file --batch` wrote of commits (git-cat-file, "BATCH OUTPUT"), and why it says none.
 use Rattle.std.specs.Prelude.{◌≡◌, ◌≢◌, ◌⊎◌, ◌&&◌, ◌<◌, ◌≤◌, ◌^◌, ◌*◌, ℕ, List, [], ◌∷◌, ◌++◌, All, Option, ⊤}
-use Rattle.std.specs.Prelude.{length, take, nat_le, unwrap_or, if◌then◌else◌}
+use Rattle.std.specs.Prelude.{length, take, slice_index, nat_le, unwrap_or, if◌then◌else◌}
 use Rattle.std.specs.List.{AllPass, AllZip, flat_map, list_all}
 use Rattle.hex.specs.Hex.{encode_lower}
 use Rattle.gix_hash_core.specs.Kind.{id_len}
@@ -9,7 +9,7 @@ use Rattle.gix_hash_core.specs.declared.kind.Kind.TheVariants.{Sha1, Sha256}
 use Rattle.commit_objects.specs.CommitContents.{Said, Says}
 use Rattle.commit_objects.specs.Object.{object_id_of}
 use Rattle.commit_objects.specs.Time.{newer_time}
-use Rattle.graph_objects.specs.BatchEntry.{commit_entry, is_lower_digit, EndsInLine, BeginsWithLongLine, LacksFeedBehind}
+use Rattle.graph_objects.specs.BatchEntry.{commit_entry, is_lower_digit, EndsInLine, BeginsWithLongLine}
 use Rattle.graph_objects.specs.BatchEntry.{BeginsWithEntry, IsLine, IsTail}
 use Rattle.graph_objects.specs.declared.heading.Heading.{Heading}
 use Rattle.graph_objects.specs.declared.heading.Heading.TheVariants as heading
@@ -77,7 +77,7 @@ BeginsWithNoEntry kind bytes =
     BeginsWithLongLine bytes
     ⊎ (((line next : List ℕ) × IsLine bytes line next × IsNoObjectLine kind line)
     ⊎ ((digits next : List ℕ) × (size : ℕ) × BeginsWithHead kind bytes digits (heading.Commit size) next
-    × LacksFeedBehind size next))
+    × (size < length next) × (slice_index next size ≢ 10)))
 
 -- the bytes begin with the entry of a commit whose id is not that of its contents
 abbrev pub BeginsWithOtherContents : Kind → List ℕ → Type 0
