@@ -1,3 +1,4 @@
+pub mod FailureLemmas
 pub mod FieldLemmas
 pub mod SourceLemmas
 pub mod SearchLemmas

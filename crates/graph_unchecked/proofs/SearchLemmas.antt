@@ -58,7 +58,7 @@ reads-after known now is old new later right same of kept ends =
 
 module _ (known : Option Tree) (new : GraphParts) (layers : List Layer) (tells : PartsTell known new (told_of layers))
     (first : ℕ) where
-  pub told-unchecked : (second : ℕ) (found : Bool)
+  told-unchecked : (second : ℕ) (found : Bool)
       → ((t : Told) → PartsTell known new t → IsTrue found → Reaches t.history second first)
       → ((t : Told) → PartsTell known new t → CountWalks t.history → Reaches t.history second first → IsTrue found)
       → IsToldUnchecked layers first second found
@@ -66,6 +66,13 @@ module _ (known : Option Tree) (new : GraphParts) (layers : List Layer) (tells :
     there = there (told_of layers) tells;
     all = all (told_of layers) tells;
   }
+
+  pub told-answered : {E : Type 0} (second : ℕ) (r : Result Bool E)
+      → IfOk r (λ found. (t : Told) → PartsTell known new t → IsTrue found → Reaches t.history second first)
+      → IfOk r (λ found. (t : Told) → PartsTell known new t → CountWalks t.history → Reaches t.history second first
+      → IsTrue found) → IfOk r (IsToldUnchecked layers first second)
+  told-answered second (Ok found) there all = told-unchecked second found there all
+  told-answered second (Err e) there all = tt
 
   pub steps-unchecked : (second : ℕ) (reached : Reached)
       → ((t : Told) → PartsTell known new t → IsAnyAnswer t.history first second reached)

@@ -1,5 +1,5 @@
 -- what is asked of a graph of which parts are kept
-use Rattle.std.proofs.Common.{◌≡◌, ◌∙◌, ◌∷◌, ℕ, List, Option, Result, Ok, Err, IfOk, Vec, ◌⊎◌, inl, inr, sym, subst}
+use Rattle.std.proofs.Common.{◌∙◌, ◌∷◌, ℕ, List, Option, Result, Ok, Err, IfOk, Vec, subst}
 use Rattle.std.specs.Global.{Global}
 use Rattle.std.specs.List.{AllZip}
 use Rattle.std.specs.Option.{ForSome}
@@ -9,22 +9,17 @@ use Rattle.graph_format.specs.declared.Position.{Position}
 use Rattle.gix_commitgraph.specs.Graph.{IsGraph}
 use Rattle.gix_commitgraph.specs.OpenAlways.{IsFromPath}
 use Rattle.commit_search.specs.Positions.{numbers_of}
-use Rattle.commit_search.specs.Source.{Told}
 use Rattle.graph_parts.specs.PathOpening.{opened_at}
-use Rattle.graph_parts.specs.OfTree.{AreOfTree}
-use Rattle.graph_parts.specs.Shown.{AreGraphParts, ArePartsOf, SeesMore, Shows, files_of}
+use Rattle.graph_parts.specs.Shown.{ArePartsOf, SeesMore, Shows}
 use Rattle.graph_parts.specs.declared.parts.GraphParts.{GraphParts}
 use Rattle.graph_parts.proofs.TreeLemmas.{seen-shown}
-use Rattle.graph_unchecked.specs.PartSource.{PartsTell, ReadsOn}
+use Rattle.graph_unchecked.specs.PartSource.{ReadsOn}
 use Rattle.graph_unchecked.specs.PartLookups.{AreBoth, AreFirstAndOthers}
 use Rattle.graph_unchecked.specs.Trusted.{IsTrustedAt}
 use Rattle.graph_unchecked.specs.Unchecked.{IsAnswerAt, IsFoundAmong, IsFoundAt, IsFoundBetween}
 use Rattle.graph_unchecked.specs.declared.among.Among.TheVariants.{Known as known_of_all}
 use Rattle.graph_unchecked.specs.declared.between.Between.TheVariants.{Known}
-use Rattle.graph_unchecked.specs.declared.unread.Unread.{Unread}
-use Rattle.graph_unchecked.specs.declared.unread.Unread.TheVariants.{Device}
-use Rattle.graph_unchecked.proofs.SearchLemmas.{reads-after, shows-after}
-use Rattle.graph_unchecked.proofs.SourceLemmas.{reads_on}
+use Rattle.graph_unchecked.proofs.SearchLemmas.{shows-after}
 
 -- parts that are read one after another
 pub reads-then : (known : Option Tree) (old mid new : GraphParts) → ReadsOn known old mid → ReadsOn known mid new
@@ -35,15 +30,6 @@ reads-then known old mid new first second = record {
   of = λ of. second.of (first.of of);
   kept = λ t tells. first.kept t (second.kept t tells);
 }
-
--- more was read for a lookup, and then by a search
-pub reads-searched : (known between now : Option Tree) (old mid new later : GraphParts) → between ≡ known → now ≡ between
-    → AreGraphParts mid → SeesMore known old mid → AreGraphParts new → files_of new ≡ files_of mid → AreOfTree now new
-    → ((t : Told) → PartsTell now new t → PartsTell between mid t) → later ≡ new → ReadsOn known old later
-reads-searched known between now old mid new later first second right sees there same of kept ends =
-    reads-then known old mid later (reads_on known old mid right sees)
-    (subst (λ (k : Option Tree). ReadsOn k mid later) first
-    (reads-after between now second mid new later there same of kept ends))
 
 -- the parts of what was opened
 pub of-opened : (known : Option Tree) (path : List ℕ) (parts : GraphParts)
@@ -130,24 +116,3 @@ all-found IsSo ids all answer layers found so = (
       (subst (λ (p : ℕ). AllZip (IsFoundAt layers) ids (p ∷ found.1)) found.3.0 found.2),
   so,
 )
-
--- the same, unless a read failed
-pub answered-at : {A : Type 0} (known : Option Tree) (path : List ℕ) (old : GraphParts) (IsSo : List Layer → A → Type 0)
-    (r s : Result A Unread) (Kept : Type 0) → (r ≡ Err Device) ⊎ ((r ≡ s) × Kept)
-    → ForSome known (λ _. (layers : List Layer) → Shows known old layers → IsGraph layers → IfOk s (IsSo layers))
-    → IsTrustedAt known path old → ForSome known (λ tree. IfOk r (IsAnswerAt tree path IsSo))
-answered-at {A} known path old IsSo r s Kept (inl failed) so of tree is =
-    subst (λ (x : Result A Unread). IfOk x (IsAnswerAt tree path IsSo)) (sym failed) tt
-answered-at {A} known path old IsSo r s Kept (inr same) so of tree is =
-    subst (λ (x : Result A Unread). IfOk x (IsAnswerAt tree path IsSo)) (sym same.0)
-    (answer-at known path old IsSo s so of tree is)
-
-pub answered-seen : {A : Type 0} (known : Option Tree) (path : List ℕ) (old new : GraphParts) (IsSo : List Layer → A → Type 0)
-    (r s : Result A Unread) (Kept : Type 0) → (r ≡ Err Device) ⊎ ((r ≡ s) × Kept) → SeesMore known old new
-    → IfOk s (λ answer. (layers : List Layer) → Shows known new layers → IsGraph layers → IsSo layers answer)
-    → IsTrustedAt known path old → ForSome known (λ tree. IfOk r (IsAnswerAt tree path IsSo))
-answered-seen {A} known path old new IsSo r s Kept (inl failed) sees so of tree is =
-    subst (λ (x : Result A Unread). IfOk x (IsAnswerAt tree path IsSo)) (sym failed) tt
-answered-seen {A} known path old new IsSo r s Kept (inr same) sees so of tree is =
-    subst (λ (x : Result A Unread). IfOk x (IsAnswerAt tree path IsSo)) (sym same.0)
-    (answer-seen known path old new IsSo s sees so of tree is)

@@ -17,10 +17,12 @@ use Rattle.graph_parts.specs.Shown.{AreGraphParts, Shows, files_of}
 use Rattle.graph_parts.specs.Spots.{LiesInFile}
 use Rattle.graph_parts.specs.declared.parts.GraphParts.{GraphParts}
 
--- What no read changes: the tree, where it is known, and the files. The references are named too.
+-- What no read changes: the tree, where it is known, the files, and how many reads had failed before. The references are named
+-- too.
 pub record KnownParts : Type 0 where
   pub tree : Option Tree
   pub files : List ChainLayer
+  pub failures : ℕ
   pub folder : ℕ
   pub parts : ℕ
 

@@ -6,6 +6,7 @@ ghost use Rattle.gix_commitgraph.specs.Graph.{graph_ids};
 ghost use Rattle.gix_commitgraph.specs.IdWalks.{ids_at};
 ghost use Rattle.commit_search.specs.Positions.{numbers_of};
 ghost use Rattle.graph_parts.specs.Shown.{AreGraphParts, SeesMore, Shows};
+ghost use Rattle.graph_unchecked.specs.Unread.{failures_after_reads};
 
 use crate::unread::Unread;
 use gix_commitgraph::Position;
@@ -28,6 +29,8 @@ pub(crate) fn read_ids<T: Folder>(
         → Shows (T.tree folder.old) parts.new layers
         → ids.items ≡ ids_at layers (numbers_of positions.now)) }
     ensures tree { T.tree folder.new ≡ T.tree folder.old }
+    ensures failures { T.failure_count folder.new
+        ≡ failures_after_reads result (T.failure_count folder.old) }
 {
     let mut ids = Vec::new(alloc);
     for pos in positions {
@@ -51,6 +54,8 @@ fn read_id<T: Folder>(
         → Shows (T.tree folder.old) parts.new layers
         → slice_get (graph_ids layers) pos.0 ≡ Some id) }
     ensures tree { T.tree folder.new ≡ T.tree folder.old }
+    ensures failures { T.failure_count folder.new
+        ≡ failures_after_reads result (T.failure_count folder.old) }
 {
     if parts.commits() <= pos.0 {
         return Err(Unread::NotByParts);

@@ -9,6 +9,7 @@ ghost use Rattle.graph_unchecked.specs.PartLookups.{AreAllWithin, AreBoth, AreBo
 ghost use Rattle.graph_unchecked.specs.PartLookups.{AreFirstAndOthers, AreOthersFound};
 ghost use Rattle.graph_unchecked.specs.PartLookups.{AreOthersWithin};
 ghost use Rattle.graph_unchecked.specs.Unchecked.{IsFoundAmong, IsFoundBetween};
+ghost use Rattle.graph_unchecked.specs.Unread.{failures_after_reads};
 
 use crate::among::Among;
 use crate::between::Between;
@@ -35,6 +36,8 @@ pub(crate) fn find_both<T: Folder>(
         → Shows (T.tree folder.old) parts.new layers
         → IsFoundBetween AreBoth (oid_bytes first.entry) (oid_bytes second.entry) layers found) }
     ensures tree { T.tree folder.new ≡ T.tree folder.old }
+    ensures failures { T.failure_count folder.new
+        ≡ failures_after_reads result (T.failure_count folder.old) }
 {
     let Some(first) = find(alloc, folder, parts, first)? else {
         return Ok(Between::FirstMissing);
@@ -61,6 +64,8 @@ pub(crate) fn find_all<T: Folder>(
         → Shows (T.tree folder.old) parts.new layers
         → IsFoundAmong AreFirstAndOthers (oid_bytes first.entry ∷ others.now) layers found) }
     ensures tree { T.tree folder.new ≡ T.tree folder.old }
+    ensures failures { T.failure_count folder.new
+        ≡ failures_after_reads result (T.failure_count folder.old) }
 {
     let Some(first) = find(alloc, folder, parts, first)? else {
         return Ok(Among::Missing(1));
@@ -87,6 +92,8 @@ fn find_others<T: Folder>(
         → Shows (T.tree folder.old) parts.new layers
         → AreOthersFound layers others.now answer) }
     ensures tree { T.tree folder.new ≡ T.tree folder.old }
+    ensures failures { T.failure_count folder.new
+        ≡ failures_after_reads result (T.failure_count folder.old) }
 {
     let mut found = Vec::new(alloc);
     for (place, id) in others.iter().enumerate() {
@@ -114,6 +121,8 @@ pub(crate) fn find<T: Folder>(
         → Shows (T.tree folder.old) parts.new layers
         → FoundIn layers (oid_bytes id.entry) (position_number answer)) }
     ensures tree { T.tree folder.new ≡ T.tree folder.old }
+    ensures failures { T.failure_count folder.new
+        ≡ failures_after_reads result (T.failure_count folder.old) }
 {
     match parts.position_of(alloc, folder, id)? {
         Lookup::Found(pos) => Ok(Some(pos)),

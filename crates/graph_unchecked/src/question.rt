@@ -1,11 +1,12 @@
 //! Questions about commits, which are given by their ids.
 
-ghost use Rattle.std.specs.Prelude.{◌≡◌, ◌⊎◌, ◌∷◌, IfOk, Err};
+ghost use Rattle.std.specs.Prelude.{◌≡◌, ◌∷◌, IfOk};
 ghost use Rattle.std.specs.Option.{ForSome};
 ghost use Rattle.gix_hash_core.specs.Oid.{oid_bytes};
 ghost use Rattle.graph_unchecked.specs.Unchecked.{IsAnswerAt, IsComparedUnchecked, IsFoundAmong};
 ghost use Rattle.graph_unchecked.specs.Unchecked.{IsFoundBetween, IsToldUnchecked};
 ghost use Rattle.graph_unchecked.specs.Unchecked.{IsWalkUnchecked};
+ghost use Rattle.graph_unchecked.specs.Unread.{failures_after_reads};
 
 pub use crate::among::{Among, IdComparison};
 pub use crate::between::Between;
@@ -38,9 +39,9 @@ pub fn is_ancestor<T: Folder>(
         (IsAnswerAt tree path.now (IsFoundBetween IsToldUnchecked
         (oid_bytes first.entry) (oid_bytes second.entry)))) }
 
-    // Where a device failed, nothing else is answered.
-    ensures failures { (result ≡ Err Unread.Device)
-        ⊎ (T.failure_count folder.new ≡ T.failure_count folder.old) }
+    // A failed device is answered where a read failed, and nothing else is answered there.
+    ensures failures { T.failure_count folder.new
+        ≡ failures_after_reads result (T.failure_count folder.old) }
     ensures tree { T.tree folder.new ≡ T.tree folder.old }
 {
     let mut graph = TrustedGraph::open(alloc, folder, path)?;
@@ -71,9 +72,9 @@ pub fn ancestor_walk<T: Folder>(
         (IsAnswerAt tree path.now (IsFoundBetween IsWalkUnchecked
         (oid_bytes first.entry) (oid_bytes second.entry)))) }
 
-    // Where a device failed, nothing else is answered.
-    ensures failures { (result ≡ Err Unread.Device)
-        ⊎ (T.failure_count folder.new ≡ T.failure_count folder.old) }
+    // A failed device is answered where a read failed, and nothing else is answered there.
+    ensures failures { T.failure_count folder.new
+        ≡ failures_after_reads result (T.failure_count folder.old) }
     ensures tree { T.tree folder.new ≡ T.tree folder.old }
 {
     let mut graph = TrustedGraph::open(alloc, folder, path)?;
@@ -104,9 +105,9 @@ pub fn compare<T: Folder>(
         (IsAnswerAt tree path.now (IsFoundAmong IsComparedUnchecked
         (oid_bytes first.entry ∷ others.now)))) }
 
-    // Where a device failed, nothing else is answered.
-    ensures failures { (result ≡ Err Unread.Device)
-        ⊎ (T.failure_count folder.new ≡ T.failure_count folder.old) }
+    // A failed device is answered where a read failed, and nothing else is answered there.
+    ensures failures { T.failure_count folder.new
+        ≡ failures_after_reads result (T.failure_count folder.old) }
     ensures tree { T.tree folder.new ≡ T.tree folder.old }
 {
     let mut graph = TrustedGraph::open(alloc, folder, path)?;

@@ -7,6 +7,7 @@ ghost use Rattle.graph_parts.specs.PartFiles.{commits_in_all};
 ghost use Rattle.graph_parts.specs.Shown.{AreGraphParts, files_of};
 ghost use Rattle.graph_parts.specs.Spots.{LiesInFile};
 ghost use Rattle.graph_unchecked.specs.PartSource.{IsWordOf, PartsTell, ReadsOn, word_total};
+ghost use Rattle.graph_unchecked.specs.Unread.{failures_after_reads};
 
 use crate::fields::{are_fields_there, is_word_there, words_in};
 use crate::unread::Unread;
@@ -34,6 +35,8 @@ pub(crate) fn read_number<T: Folder>(
     ensures number { IfOk result (λ number. (t : Told) → PartsTell (T.tree folder.old) parts.new t
         → number ≡ generation_at t.history pos.0) }
     ensures tree { T.tree folder.new ≡ T.tree folder.old }
+    ensures failures { T.failure_count folder.new
+        ≡ failures_after_reads result (T.failure_count folder.old) }
 {
     the_history_of_a_graph_says_what_its_records_say();
     let Some(commit) = parts.commit_at(alloc, folder, pos)? else {
@@ -58,6 +61,8 @@ pub(crate) fn read_fields<T: Folder>(
         AreFieldsRead (commits_in_all files) (IsWordOf files) (LiesInFile files)
         (PartsTell (T.tree folder.old) parts.new) pos.0) }
     ensures tree { T.tree folder.new ≡ T.tree folder.old }
+    ensures failures { T.failure_count folder.new
+        ≡ failures_after_reads result (T.failure_count folder.old) }
 {
     the_history_of_a_graph_is_that_of_its_layers();
     the_history_of_a_graph_says_what_its_records_say();
@@ -94,6 +99,8 @@ pub(crate) fn read_word<T: Folder>(
         IsWordRead (commits_in_all files) (word_total files layer) (IsWordOf files)
         (PartsTell (T.tree folder.old) parts.new) pos.0 layer index) }
     ensures tree { T.tree folder.new ≡ T.tree folder.old }
+    ensures failures { T.failure_count folder.new
+        ≡ failures_after_reads result (T.failure_count folder.old) }
 {
     let words = words_in(parts, layer);
     let count = parts.commits();

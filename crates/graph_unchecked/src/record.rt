@@ -11,6 +11,7 @@ ghost use Rattle.commit_search.specs.Positions.{numbers_of};
 ghost use Rattle.graph_parts.specs.Shown.{AreGraphParts, SeesMore, Shows, commits_of_parts};
 ghost use Rattle.graph_unchecked.specs.NamedParents.{named_by_both, named_by_second};
 ghost use Rattle.graph_unchecked.specs.Trusted.{AreParentsFound, IsCommitFound};
+ghost use Rattle.graph_unchecked.specs.Unread.{failures_after_reads};
 
 use crate::fields::words_in;
 use crate::ids::read_ids;
@@ -42,6 +43,8 @@ pub(crate) fn found_commit<T: Folder>(
         → Shows (T.tree folder.old) parts.new layers → IsGraph layers
         → IsCommitFound (oid_bytes id.entry) layers found) }
     ensures tree { T.tree folder.new ≡ T.tree folder.old }
+    ensures failures { T.failure_count folder.new
+        ≡ failures_after_reads result (T.failure_count folder.old) }
 {
     let Some(pos) = find(alloc, folder, parts, id)? else {
         return Ok(None);
@@ -67,6 +70,8 @@ pub(crate) fn found_parents<T: Folder>(
         → Shows (T.tree folder.old) parts.new layers → IsGraph layers
         → AreParentsFound (oid_bytes id.entry) layers found) }
     ensures tree { T.tree folder.new ≡ T.tree folder.old }
+    ensures failures { T.failure_count folder.new
+        ≡ failures_after_reads result (T.failure_count folder.old) }
 {
     let Some(pos) = find(alloc, folder, parts, id)? else {
         return Ok(None);
@@ -91,6 +96,8 @@ fn parents_of<T: Folder>(
         → Shows (T.tree folder.old) parts.new layers → IsGraph layers
         → numbers_of parents.items ≡ parents_at (history_of layers) pos.0) }
     ensures tree { T.tree folder.new ≡ T.tree folder.old }
+    ensures failures { T.failure_count folder.new
+        ≡ failures_after_reads result (T.failure_count folder.old) }
 {
     the_history_of_a_graph_says_what_its_records_say();
     a_position_lies_in_one_layer();
@@ -118,6 +125,8 @@ fn named_parents<T: Folder>(
         → Shows (T.tree folder.old) parts.new layers
         → numbers_of parents.items ≡ named_by_both (list_in layers layer) first second) }
     ensures tree { T.tree folder.new ≡ T.tree folder.old }
+    ensures failures { T.failure_count folder.new
+        ≡ failures_after_reads result (T.failure_count folder.old) }
 {
     match first {
         ParentEdge::None => match second {
@@ -148,6 +157,8 @@ fn parents_after<T: Folder>(
         → Shows (T.tree folder.old) parts.new layers
         → numbers_of parents.items ≡ first.0 ∷ named_by_second (list_in layers layer) second) }
     ensures tree { T.tree folder.new ≡ T.tree folder.old }
+    ensures failures { T.failure_count folder.new
+        ≡ failures_after_reads result (T.failure_count folder.old) }
 {
     let mut parents = Vec::new(alloc);
     parents.push(first).map_err(|_| Unread::OutOfMemory)?;
@@ -180,6 +191,8 @@ fn listed_parents<T: Folder>(
         → numbers_of parents.items
         ≡ numbers_of before.items ++ named_from (list_in layers layer) first) }
     ensures tree { T.tree folder.new ≡ T.tree folder.old }
+    ensures failures { T.failure_count folder.new
+        ≡ failures_after_reads result (T.failure_count folder.old) }
 {
     let mut parents = before;
     let words = words_in(parts, layer);

@@ -14,6 +14,7 @@ ghost use Rattle.graph_unchecked.specs.PartSource.{ReadsOn};
 ghost use Rattle.graph_unchecked.specs.Unchecked.{IsComparedUnchecked, IsFoundAmong};
 ghost use Rattle.graph_unchecked.specs.Unchecked.{IsFoundBetween, IsToldUnchecked};
 ghost use Rattle.graph_unchecked.specs.Unchecked.{IsWalkUnchecked};
+ghost use Rattle.graph_unchecked.specs.Unread.{failures_after_reads};
 
 use crate::among::{Among, IdComparison};
 use crate::between::Between;
@@ -46,18 +47,15 @@ pub(crate) fn told_between<T: Folder>(
         → IfOk result (IsFoundBetween IsToldUnchecked
         (oid_bytes first.entry) (oid_bytes second.entry) layers)) }
     ensures tree { T.tree folder.new ≡ T.tree folder.old }
+    ensures failures { T.failure_count folder.new
+        ≡ failures_after_reads result (T.failure_count folder.old) }
 {
     let found = find_both(alloc, folder, parts, first, second)?;
     match found {
         Between::FirstMissing => Ok(Between::FirstMissing),
         Between::SecondMissing => Ok(Between::SecondMissing),
         Between::Known((first, second)) => {
-            let mut commits = PartCommits {
-                alloc,
-                folder,
-                parts,
-            };
-            let told = searcher.is_ancestor(&mut commits, first, second)?;
+            let told = told_of(searcher, alloc, folder, parts, first, second)?;
             Ok(Between::Known(told))
         }
     }
@@ -80,6 +78,8 @@ pub(crate) fn walk_between_ids<T: Folder>(
         → IfOk result (IsFoundBetween IsWalkUnchecked
         (oid_bytes first.entry) (oid_bytes second.entry) layers)) }
     ensures tree { T.tree folder.new ≡ T.tree folder.old }
+    ensures failures { T.failure_count folder.new
+        ≡ failures_after_reads result (T.failure_count folder.old) }
 {
     let found = find_both(alloc, folder, parts, first, second)?;
     match found {
@@ -110,6 +110,8 @@ pub(crate) fn compared_among<T: Folder>(
         → IfOk result (IsFoundAmong IsComparedUnchecked
         (oid_bytes first.entry ∷ others.now) layers)) }
     ensures tree { T.tree folder.new ≡ T.tree folder.old }
+    ensures failures { T.failure_count folder.new
+        ≡ failures_after_reads result (T.failure_count folder.old) }
 {
     let found = find_all(alloc, folder, parts, first, others)?;
     match found {
@@ -119,6 +121,39 @@ pub(crate) fn compared_among<T: Folder>(
             Ok(Among::Known(comparison))
         }
     }
+}
+
+/// Whether the first commit is an ancestor of the second, or the same.
+fn told_of<T: Folder>(
+    searcher: &mut FewSearcher,
+    alloc: Global,
+    folder: &mut T,
+    parts: &mut GraphParts,
+    first: Position,
+    second: Position,
+) -> Result<bool, Unread>
+    requires parts { AreGraphParts parts.old }
+    requires of { AreOfTree (T.tree folder.old) parts.old }
+    requires first { first.0 < commits_of_parts parts.old }
+    requires second { second.0 < commits_of_parts parts.old }
+    ensures reads { ReadsOn (T.tree folder.old) parts.old parts.new }
+    ensures told { ForSome (T.tree folder.old) (λ _. (layers : List Layer)
+        → Shows (T.tree folder.old) parts.old layers → IsGraph layers
+        → IfOk result (IsToldUnchecked layers first.0 second.0)) }
+    ensures tree { T.tree folder.new ≡ T.tree folder.old }
+    ensures failures { T.failure_count folder.new
+        ≡ failures_after_reads result (T.failure_count folder.old) }
+{
+    let failures = folder.failures();
+    let mut commits = PartCommits {
+        alloc,
+        folder,
+        parts,
+        failures,
+        failed: false,
+    };
+    let told = searcher.is_ancestor(&mut commits, first, second);
+    commits.unless_failed(told)
 }
 
 /// The ids on a walk along parents from the first commit to the second.
@@ -139,6 +174,8 @@ fn walk_ids<T: Folder>(
         → Shows (T.tree folder.old) parts.old layers → IsGraph layers
         → IfOk result (IsWalkUnchecked layers first.0 second.0)) }
     ensures tree { T.tree folder.new ≡ T.tree folder.old }
+    ensures failures { T.failure_count folder.new
+        ≡ failures_after_reads result (T.failure_count folder.old) }
 {
     let found = walk_between(searcher, alloc, folder, parts, first, second)?;
     match found {
@@ -168,13 +205,19 @@ fn walk_between<T: Folder>(
         → Shows (T.tree folder.old) parts.old layers → IsGraph layers
         → IfOk result (IsStepsUnchecked layers first.0 second.0)) }
     ensures tree { T.tree folder.new ≡ T.tree folder.old }
+    ensures failures { T.failure_count folder.new
+        ≡ failures_after_reads result (T.failure_count folder.old) }
 {
+    let failures = folder.failures();
     let mut commits = PartCommits {
         alloc,
         folder,
         parts,
+        failures,
+        failed: false,
     };
-    let reached = searcher.ancestor_walk(&mut commits, first, second)?;
+    let found = searcher.ancestor_walk(&mut commits, first, second);
+    let reached = commits.unless_failed(found)?;
     Ok(reached.walk)
 }
 
@@ -196,6 +239,8 @@ fn compared<T: Folder>(
         → Shows (T.tree folder.old) parts.old layers → IsGraph layers
         → IfOk result (IsComparedUnchecked layers first.0 (numbers_of others.now))) }
     ensures tree { T.tree folder.new ≡ T.tree folder.old }
+    ensures failures { T.failure_count folder.new
+        ≡ failures_after_reads result (T.failure_count folder.old) }
 {
     let comparison = bases_of(comparer, alloc, folder, parts, first, others)?;
     let base_ids = read_ids(alloc, folder, parts, &comparison.bases.positions)?;
@@ -223,11 +268,17 @@ fn bases_of<T: Folder>(
         → Shows (T.tree folder.old) parts.old layers → IsGraph layers
         → IfOk result (AreBasesUnchecked layers first.0 (numbers_of others.now))) }
     ensures tree { T.tree folder.new ≡ T.tree folder.old }
+    ensures failures { T.failure_count folder.new
+        ≡ failures_after_reads result (T.failure_count folder.old) }
 {
+    let failures = folder.failures();
     let mut commits = PartCommits {
         alloc,
         folder,
         parts,
+        failures,
+        failed: false,
     };
-    comparer.compare(&mut commits, first, others)
+    let compared = comparer.compare(&mut commits, first, others);
+    commits.unless_failed(compared)
 }

@@ -1,13 +1,15 @@
 //! Parts of files, as a source of commits.
 
 ghost use Rattle.std.proofs.Props.{props};
-ghost use Rattle.std.specs.Prelude.{⊤};
+ghost use Rattle.std.specs.Prelude.{◌≡◌, ◌≢◌, IfErr, IfOk, Ok};
 ghost use Rattle.graph_parts.specs.OfTree.{AreOfTree};
 ghost use Rattle.graph_parts.specs.PartFiles.{commits_in_all};
 ghost use Rattle.graph_parts.specs.Shown.{AreGraphParts, files_of};
 ghost use Rattle.graph_parts.specs.Spots.{LiesInFile};
 ghost use Rattle.graph_unchecked.specs.AtMostOne.{graph_parts_prop};
 ghost use Rattle.graph_unchecked.specs.PartSource.{IsWordOf, KnownParts, PartsTell, word_total};
+ghost use Rattle.graph_unchecked.specs.Unread.{failures_after_reads, failures_met};
+ghost use Rattle.graph_unchecked.specs.declared.unread.Unread.TheVariants.{Device};
 
 use crate::fields::words_in;
 use crate::reads::{read_fields, read_number, read_word};
@@ -21,14 +23,36 @@ use graph_parts::parts::GraphParts;
 use std::alloc::Global;
 
 /// The commits of files of which parts are read. Where it is known what stands in the folder, the
-/// parts that are kept are of its files.
+/// parts that are kept are of its files. No call answers `Device`: that a read failed is kept, and
+/// `unless_failed` answers it.
 #[derive(Drop)]
 pub(crate) struct PartCommits<'a, T: Folder> {
     pub(crate) alloc: Global,
     pub(crate) folder: &'a mut T,
     pub(crate) parts: &'a mut GraphParts,
+    /// How many reads the folder had failed before.
+    pub(crate) failures: u64,
+    /// Whether one has failed since. Nothing more is read then.
+    pub(crate) failed: bool,
     ghost right: { AreGraphParts parts.now } by { graph_parts_prop parts.now },
     ghost of: { AreOfTree (T.tree folder.now) parts.now } by { Prim.hlevel props },
+    ghost counted: { T.failure_count folder.now ≡ failures_met failed failures },
+}
+
+impl<'a, T: Folder> PartCommits<'a, T> {
+    /// What a search over the commits answers, unless a read failed.
+    pub(crate) fn unless_failed<A: Drop>(&self, answer: Result<A, Unread>) -> Result<A, Unread>
+        requires { IfErr answer (λ error. error ≢ Device) }
+        ensures answer { IfOk result (λ found. answer ≡ Ok found) }
+        ensures failures { T.failure_count self.now.folder.now
+            ≡ failures_after_reads result self.now.failures }
+    {
+        if self.failed {
+            Err(Unread::Device)
+        } else {
+            answer
+        }
+    }
 }
 
 impl<'a, T: Folder> CommitSource for PartCommits<'a, T> {
@@ -39,6 +63,7 @@ impl<'a, T: Folder> CommitSource for PartCommits<'a, T> {
     ghost known = { λ s. record {
       tree = T.tree s.folder.now;
       files = files_of s.parts.now;
+      failures = s.failures;
       folder = s.folder.ghost_name;
       parts = s.parts.ghost_name;
     } };
@@ -53,7 +78,7 @@ impl<'a, T: Folder> CommitSource for PartCommits<'a, T> {
 
     ghost is_listed = { λ k p index. IsWordOf k.files p index };
 
-    ghost may_fail = { λ _ _. ⊤ };
+    ghost may_fail = { λ _ error. error ≢ Device };
 
     #[tactic(auto, using(crate::proofs::SourceLemmas::as_many))]
     fn num_commits(&self) -> u32 {
@@ -62,11 +87,29 @@ impl<'a, T: Folder> CommitSource for PartCommits<'a, T> {
     }
 
     fn generation_number(&mut self, pos: Position) -> Result<u32, Unread> {
-        read_number(self.alloc, self.folder, self.parts, pos)
+        if self.failed {
+            return Err(Unread::NotByParts);
+        }
+        match read_number(self.alloc, self.folder, self.parts, pos) {
+            Err(Unread::Device) => {
+                self.failed = true;
+                Err(Unread::NotByParts)
+            }
+            answer => answer,
+        }
     }
 
     fn parent_fields(&mut self, pos: Position) -> Result<(ParentEdge, ParentEdge), Unread> {
-        read_fields(self.alloc, self.folder, self.parts, pos)
+        if self.failed {
+            return Err(Unread::NotByParts);
+        }
+        match read_fields(self.alloc, self.folder, self.parts, pos) {
+            Err(Unread::Device) => {
+                self.failed = true;
+                Err(Unread::NotByParts)
+            }
+            answer => answer,
+        }
     }
 
     #[tactic(auto, using(crate::proofs::SourceLemmas::as_many))]
@@ -84,6 +127,15 @@ impl<'a, T: Folder> CommitSource for PartCommits<'a, T> {
         layer: usize,
         index: u32,
     ) -> Result<ExtraEdge, Unread> {
-        read_word(self.alloc, self.folder, self.parts, pos, layer, index)
+        if self.failed {
+            return Err(Unread::NotByParts);
+        }
+        match read_word(self.alloc, self.folder, self.parts, pos, layer, index) {
+            Err(Unread::Device) => {
+                self.failed = true;
+                Err(Unread::NotByParts)
+            }
+            answer => answer,
+        }
     }
 }

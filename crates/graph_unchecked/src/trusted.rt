@@ -1,6 +1,6 @@
 //! Many questions about one graph, of whose files parts are read and kept.
 
-ghost use Rattle.std.specs.Prelude.{◌≡◌, ◌⊎◌, ◌∷◌, ℕ, List, IfOk, Err, Option};
+ghost use Rattle.std.specs.Prelude.{◌≡◌, ◌∷◌, ℕ, List, IfOk, Option};
 ghost use Rattle.std.specs.Option.{ForSome};
 ghost use Rattle.gix_hash_core.specs.Oid.{oid_bytes};
 ghost use Rattle.gix_commitgraph.specs.Graph.{total};
@@ -9,6 +9,7 @@ ghost use Rattle.graph_unchecked.specs.Trusted.{AreParentsFound, IsCommitFound, 
 ghost use Rattle.graph_unchecked.specs.Unchecked.{IsAnswerAt, IsComparedUnchecked, IsFoundAmong};
 ghost use Rattle.graph_unchecked.specs.Unchecked.{IsFoundBetween, IsToldUnchecked};
 ghost use Rattle.graph_unchecked.specs.Unchecked.{IsWalkUnchecked};
+ghost use Rattle.graph_unchecked.specs.Unread.{failures_after_reads};
 
 use crate::among::{Among, IdComparison};
 use crate::between::Between;
@@ -69,14 +70,21 @@ impl TrustedGraph {
     ) -> Result<TrustedGraph, Unread>
         ensures graph { IfOk result (IsTrustedAt (T.tree folder.old) path.now) }
 
-        // Where a device failed, nothing is opened.
-        ensures failures { (result ≡ Err Unread.Device)
-            ⊎ (T.failure_count folder.new ≡ T.failure_count folder.old) }
+        // A failed device is answered where a read failed, and nothing else is answered there.
+        ensures failures { T.failure_count folder.new
+            ≡ failures_after_reads result (T.failure_count folder.old) }
         ensures tree { T.tree folder.new ≡ T.tree folder.old }
     {
-        let failures = folder.failures();
-        let opened = open_unasked(alloc, folder, path);
-        unless_failed(folder, failures, opened)
+        let opened = open_parts(alloc, folder, path)?;
+        match opened {
+            Some(parts) => Ok(TrustedGraph {
+                alloc,
+                parts,
+                searcher: FewSearcher::new(alloc),
+                comparer: FewComparer::new(alloc),
+            }),
+            None => Err(Unread::NotByParts),
+        }
     }
 
     /// How many commits the graph has.
@@ -104,15 +112,13 @@ impl TrustedGraph {
             (IsAnswerAt tree path (IsFoundBetween IsToldUnchecked
             (oid_bytes first.entry) (oid_bytes second.entry)))) }
 
-        // Where a device failed, nothing else is answered.
-        ensures failures { (result ≡ Err Unread.Device)
-            ⊎ (T.failure_count folder.new ≡ T.failure_count folder.old) }
+        // A failed device is answered where a read failed, and nothing else is answered there.
+        ensures failures { T.failure_count folder.new
+            ≡ failures_after_reads result (T.failure_count folder.old) }
         ensures tree { T.tree folder.new ≡ T.tree folder.old }
     {
-        let failures = folder.failures();
         let (searcher, parts) = (&mut self.searcher, &mut self.parts);
-        let told = told_between(searcher, self.alloc, folder, parts, first, second);
-        unless_failed(folder, failures, told)
+        told_between(searcher, self.alloc, folder, parts, first, second)
     }
 
     /// The ids on a shortest walk along parents from the commit with the first id to the one with
@@ -132,15 +138,13 @@ impl TrustedGraph {
             (IsAnswerAt tree path (IsFoundBetween IsWalkUnchecked
             (oid_bytes first.entry) (oid_bytes second.entry)))) }
 
-        // Where a device failed, nothing else is answered.
-        ensures failures { (result ≡ Err Unread.Device)
-            ⊎ (T.failure_count folder.new ≡ T.failure_count folder.old) }
+        // A failed device is answered where a read failed, and nothing else is answered there.
+        ensures failures { T.failure_count folder.new
+            ≡ failures_after_reads result (T.failure_count folder.old) }
         ensures tree { T.tree folder.new ≡ T.tree folder.old }
     {
-        let failures = folder.failures();
         let (searcher, parts) = (&mut self.searcher, &mut self.parts);
-        let walk = walk_between_ids(searcher, self.alloc, folder, parts, first, second);
-        unless_failed(folder, failures, walk)
+        walk_between_ids(searcher, self.alloc, folder, parts, first, second)
     }
 
     /// The merge bases of the commit with the first id and those with the others, the least
@@ -159,15 +163,13 @@ impl TrustedGraph {
             (IsAnswerAt tree path (IsFoundAmong IsComparedUnchecked
             (oid_bytes first.entry ∷ others.now)))) }
 
-        // Where a device failed, nothing else is answered.
-        ensures failures { (result ≡ Err Unread.Device)
-            ⊎ (T.failure_count folder.new ≡ T.failure_count folder.old) }
+        // A failed device is answered where a read failed, and nothing else is answered there.
+        ensures failures { T.failure_count folder.new
+            ≡ failures_after_reads result (T.failure_count folder.old) }
         ensures tree { T.tree folder.new ≡ T.tree folder.old }
     {
-        let failures = folder.failures();
         let (comparer, parts) = (&mut self.comparer, &mut self.parts);
-        let compared = compared_among(comparer, self.alloc, folder, parts, first, others);
-        unless_failed(folder, failures, compared)
+        compared_among(comparer, self.alloc, folder, parts, first, others)
     }
 
     /// The position of the commit with an id, and what is stored of it, in any graph.
@@ -183,14 +185,12 @@ impl TrustedGraph {
             → ForSome (T.tree folder.old) (λ tree. IfOk result
             (IsAnswerAt tree path (IsCommitFound (oid_bytes id.entry)))) }
 
-        // Where a device failed, nothing else is answered.
-        ensures failures { (result ≡ Err Unread.Device)
-            ⊎ (T.failure_count folder.new ≡ T.failure_count folder.old) }
+        // A failed device is answered where a read failed, and nothing else is answered there.
+        ensures failures { T.failure_count folder.new
+            ≡ failures_after_reads result (T.failure_count folder.old) }
         ensures tree { T.tree folder.new ≡ T.tree folder.old }
     {
-        let failures = folder.failures();
-        let found = found_commit(self.alloc, folder, &mut self.parts, id);
-        unless_failed(folder, failures, found)
+        found_commit(self.alloc, folder, &mut self.parts, id)
     }
 
     /// The ids of the parents of the commit with an id, first parent first, in any graph.
@@ -206,50 +206,11 @@ impl TrustedGraph {
             → ForSome (T.tree folder.old) (λ tree. IfOk result
             (IsAnswerAt tree path (AreParentsFound (oid_bytes id.entry)))) }
 
-        // Where a device failed, nothing else is answered.
-        ensures failures { (result ≡ Err Unread.Device)
-            ⊎ (T.failure_count folder.new ≡ T.failure_count folder.old) }
+        // A failed device is answered where a read failed, and nothing else is answered there.
+        ensures failures { T.failure_count folder.new
+            ≡ failures_after_reads result (T.failure_count folder.old) }
         ensures tree { T.tree folder.new ≡ T.tree folder.old }
     {
-        let failures = folder.failures();
-        let found = found_parents(self.alloc, folder, &mut self.parts, id);
-        unless_failed(folder, failures, found)
-    }
-}
-
-/// What `TrustedGraph::open` answers, where the folder's count of failures is not looked at.
-fn open_unasked<T: Folder>(
-    alloc: Global,
-    folder: &mut T,
-    path: &str,
-) -> Result<TrustedGraph, Unread>
-    ensures graph { IfOk result (IsTrustedAt (T.tree folder.old) path.now) }
-    ensures tree { T.tree folder.new ≡ T.tree folder.old }
-{
-    let opened = open_parts(alloc, folder, path)?;
-    match opened {
-        Some(parts) => Ok(TrustedGraph {
-            alloc,
-            parts,
-            searcher: FewSearcher::new(alloc),
-            comparer: FewComparer::new(alloc),
-        }),
-        None => Err(Unread::NotByParts),
-    }
-}
-
-/// The answer, unless the folder has failed a read since it counted so many failures.
-fn unless_failed<T: Folder, A: Drop>(
-    folder: &T,
-    failures: u64,
-    answer: Result<A, Unread>,
-) -> Result<A, Unread>
-    ensures { (result ≡ Err Unread.Device)
-        ⊎ ((result ≡ answer) × (T.failure_count folder.now ≡ failures)) }
-{
-    if folder.failures() == failures {
-        answer
-    } else {
-        Err(Unread::Device)
+        found_parents(self.alloc, folder, &mut self.parts, id)
     }
 }

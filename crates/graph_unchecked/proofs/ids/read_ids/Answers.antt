@@ -16,6 +16,7 @@ loop-pos-preserved g c =
     let pushed : c.push.new.self.items ≡ c.loop-pos.ids.items ++ c.in_ok-id.id ∷ [] = search rules in
     record {
       tree = c.read_id.ensures.tree ∙ c.loop-pos.invariant.tree;
+      failures = search rules;
       right = c.read_id.ensures.parts;
       sees = sees-then known old mid new c.loop-pos.invariant.sees sees;
       ids = λ layers shows.

@@ -9,8 +9,10 @@ use Rattle.graph_unchecked.proofs.ids.read_ids.Given as goal
 abbrev pub invariant-loop-pos : goal.invariant-loop-pos
 invariant-loop-pos g l =
     let tree_of = g.T.Folder.tree in
+    let failures = g.T.Folder.failure_count in
     record {
       tree : tree_of l.folder ≡ tree_of l.fn.folder;
+      failures : failures l.folder ≡ failures l.fn.folder;
       right : AreGraphParts l.parts;
       sees : SeesMore (tree_of l.fn.folder) l.fn.parts l.parts;
       ids : (layers : List Layer) → Shows (tree_of l.fn.folder) l.parts layers

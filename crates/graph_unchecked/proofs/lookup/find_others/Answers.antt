@@ -27,6 +27,7 @@ loop-place-preserved g c =
     let pushed : c.push.new.self.items ≡ c.loop-place.found.items ++ pos ∷ [] = search rules in
     record {
       tree = c.find.ensures.tree ∙ c.loop-place.invariant.tree;
+      failures = search rules;
       right = c.find.ensures.parts;
       sees = sees-then known old mid new c.loop-place.invariant.sees sees;
       within = rw pushed (All-push (λ (p : Position). p.0 < commits_of_parts old) c.loop-place.found.items pos

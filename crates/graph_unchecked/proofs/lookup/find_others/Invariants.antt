@@ -11,8 +11,10 @@ use Rattle.graph_unchecked.proofs.lookup.find_others.Given as goal
 abbrev pub invariant-loop-place : goal.invariant-loop-place
 invariant-loop-place g l =
     let tree_of = g.T.Folder.tree in
+    let failures = g.T.Folder.failure_count in
     record {
       tree : tree_of l.folder ≡ tree_of l.fn.folder;
+      failures : failures l.folder ≡ failures l.fn.folder;
       right : AreGraphParts l.parts;
       sees : SeesMore (tree_of l.fn.folder) l.fn.parts l.parts;
       within : All (λ (pos : Position). pos.0 < commits_of_parts l.fn.parts) l.found.items;

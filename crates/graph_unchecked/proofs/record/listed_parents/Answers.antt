@@ -21,6 +21,7 @@ loop-index-preserved g c =
     let pushed : c.push-in-loop-index.new.self.items ≡ c.loop-index.parents.items ++ pos ∷ [] = search rules in
     record {
       tree = c.edge_at.ensures.tree ∙ c.loop-index.invariant.tree;
+      failures = search rules;
       right = c.edge_at.ensures.parts;
       sees = sees-then known old mid new c.loop-index.invariant.sees sees;
       named = λ layers shows.

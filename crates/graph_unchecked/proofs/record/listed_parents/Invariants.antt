@@ -9,8 +9,10 @@ use Rattle.graph_unchecked.proofs.record.listed_parents.Given as goal
 abbrev pub invariant-loop-index : goal.invariant-loop-index
 invariant-loop-index g l =
     let tree_of = g.T.Folder.tree in
+    let failures = g.T.Folder.failure_count in
     record {
       tree : tree_of l.folder ≡ tree_of l.fn.folder;
+      failures : failures l.folder ≡ failures l.fn.folder;
       right : AreGraphParts l.parts;
       sees : SeesMore (tree_of l.fn.folder) l.fn.parts l.parts;
       named : (layers : List Layer) → Shows (tree_of l.fn.folder) l.parts layers

@@ -5,26 +5,26 @@ use Rattle.graph_parts.specs.OfTree.{AreOfTree}
 use Rattle.graph_parts.specs.Shown.{AreGraphParts}
 use Rattle.graph_unchecked.specs.Trusted.{IsTrustedAt}
 use Rattle.graph_unchecked.specs.Unchecked.{IsComparedUnchecked, IsFoundAmong}
-use Rattle.graph_unchecked.proofs.TrustedLemmas.{answered-at, of-read}
+use Rattle.graph_unchecked.proofs.TrustedLemmas.{answer-at, of-read}
 use Rattle.graph_unchecked.proofs.trusted.TrustedGraph.compare.Goals as goal
 
-pub compared_among-compared-requires-clause-parts : goal.compared_among-compared-requires-clause-parts
-compared_among-compared-requires-clause-parts g c = subst AreGraphParts (sym c.self.view_is) c.requires.1.right
+pub compared_among-requires-clause-parts : goal.compared_among-requires-clause-parts
+compared_among-requires-clause-parts g c = subst AreGraphParts (sym c.self.view_is) c.requires.1.right
 
-pub compared_among-compared-requires-clause-of : goal.compared_among-compared-requires-clause-of
-compared_among-compared-requires-clause-of g c =
+pub compared_among-requires-clause-of : goal.compared_among-requires-clause-of
+compared_among-requires-clause-of g c =
     subst (AreOfTree (g.T.Folder.tree c.args.folder.now)) (sym c.self.view_is) c.requires.1.of
 
 pub returns-clause-graph : goal.returns-clause-graph
 returns-clause-graph g c = λ path of.
     let known = g.T.Folder.tree c.args.folder.now in
-    of-read known path c.self.inside.parts _ c.compared_among-compared.ensures.reads
+    of-read known path c.self.inside.parts _ c.compared_among.ensures.reads
     (subst (IsTrustedAt known path) (sym c.self.view_is) of)
 
 pub returns-clause-answer : goal.returns-clause-answer
 returns-clause-answer g c = λ path of.
     let known = g.T.Folder.tree c.args.folder.now in
-    answered-at known path c.self.inside.parts
+    answer-at known path c.self.inside.parts
     (IsFoundAmong IsComparedUnchecked (oid_bytes c.args.first ∷ c.args.others.now))
-    c.unless_failed.result c.compared_among-compared.result _ c.unless_failed.ensures c.compared_among-compared.ensures.told
+    c.compared_among.result c.compared_among.ensures.told
     (subst (IsTrustedAt known path) (sym c.self.view_is) of)

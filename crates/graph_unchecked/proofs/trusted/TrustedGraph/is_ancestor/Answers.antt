@@ -5,26 +5,26 @@ use Rattle.graph_parts.specs.OfTree.{AreOfTree}
 use Rattle.graph_parts.specs.Shown.{AreGraphParts}
 use Rattle.graph_unchecked.specs.Trusted.{IsTrustedAt}
 use Rattle.graph_unchecked.specs.Unchecked.{IsFoundBetween, IsToldUnchecked}
-use Rattle.graph_unchecked.proofs.TrustedLemmas.{answered-at, of-read}
+use Rattle.graph_unchecked.proofs.TrustedLemmas.{answer-at, of-read}
 use Rattle.graph_unchecked.proofs.trusted.TrustedGraph.is_ancestor.Goals as goal
 
-pub told_between-told-requires-clause-parts : goal.told_between-told-requires-clause-parts
-told_between-told-requires-clause-parts g c = subst AreGraphParts (sym c.self.view_is) c.requires.1.right
+pub told_between-requires-clause-parts : goal.told_between-requires-clause-parts
+told_between-requires-clause-parts g c = subst AreGraphParts (sym c.self.view_is) c.requires.1.right
 
-pub told_between-told-requires-clause-of : goal.told_between-told-requires-clause-of
-told_between-told-requires-clause-of g c =
+pub told_between-requires-clause-of : goal.told_between-requires-clause-of
+told_between-requires-clause-of g c =
     subst (AreOfTree (g.T.Folder.tree c.args.folder.now)) (sym c.self.view_is) c.requires.1.of
 
 pub returns-clause-graph : goal.returns-clause-graph
 returns-clause-graph g c = λ path of.
     let known = g.T.Folder.tree c.args.folder.now in
-    of-read known path c.self.inside.parts _ c.told_between-told.ensures.reads
+    of-read known path c.self.inside.parts _ c.told_between.ensures.reads
     (subst (IsTrustedAt known path) (sym c.self.view_is) of)
 
 pub returns-clause-answer : goal.returns-clause-answer
 returns-clause-answer g c = λ path of.
     let known = g.T.Folder.tree c.args.folder.now in
-    answered-at known path c.self.inside.parts
+    answer-at known path c.self.inside.parts
     (IsFoundBetween IsToldUnchecked (oid_bytes c.args.first) (oid_bytes c.args.second))
-    c.unless_failed.result c.told_between-told.result _ c.unless_failed.ensures c.told_between-told.ensures.told
+    c.told_between.result c.told_between.ensures.told
     (subst (IsTrustedAt known path) (sym c.self.view_is) of)

@@ -1,6 +1,6 @@
 -- The parts of what was opened are of the graph at the path.
 use Rattle.graph_unchecked.proofs.TrustedLemmas.{of-opened}
-use Rattle.graph_unchecked.proofs.trusted.open_unasked.Goals as goal
+use Rattle.graph_unchecked.proofs.trusted.TrustedGraph.open.Goals as goal
 
 pub returns-in-Some-clause-graph : goal.returns-in-Some-clause-graph
 returns-in-Some-clause-graph g c =
