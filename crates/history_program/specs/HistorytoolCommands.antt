@@ -73,32 +73,33 @@ TellsOfItself text old new status = Appends old new (text ⧺ newline) × (statu
 
 -- an answer to a question about two commits, of which the texts of ids are given, or about one and some others: one that its
 -- command may give, or where the graph is not checked, one that it may give then
-abbrev pub TellsOfAncestor : Bool → List ℕ → List ℕ → Type 0 → (Result (List Layer) OpenError → Type 0) → ℕ → ℕ
+abbrev pub TellsOfAncestor : Bool → List ℕ → List ℕ → Type 0 → (ℕ → ℕ → Result (List Layer) OpenError → Type 0) → ℕ → ℕ
     → Option (List ℕ) → Option (List ℕ) → ℕ → Type 0
 TellsOfAncestor false first second IsLeftAlone MayOpen before after old new status =
-    WritesAnswer is_ancestor_text is_ancestor_status (MayAnswer IsTold first second IsLeftAlone MayOpen) old new status
+    WritesAnswer is_ancestor_text is_ancestor_status (MayAnswer IsTold first second IsLeftAlone (MayOpen before after))
+    old new status
 TellsOfAncestor true first second IsLeftAlone MayOpen before after old new status =
     WritesAnswer is_ancestor_text is_ancestor_status (MayTellUnchecked first second IsLeftAlone MayOpen before after)
     old new status
 
-abbrev pub TellsOfWalk : Bool → List ℕ → List ℕ → Type 0 → (Result (List Layer) OpenError → Type 0) → ℕ → ℕ
+abbrev pub TellsOfWalk : Bool → List ℕ → List ℕ → Type 0 → (ℕ → ℕ → Result (List Layer) OpenError → Type 0) → ℕ → ℕ
     → Option (List ℕ) → Option (List ℕ) → ℕ → Type 0
 TellsOfWalk false first second IsLeftAlone MayOpen before after old new status =
-    WritesAnswer walk_text walk_status (MayAnswer IsWalkOfIds first second IsLeftAlone MayOpen) old new status
+    WritesAnswer walk_text walk_status (MayAnswer IsWalkOfIds first second IsLeftAlone (MayOpen before after)) old new status
 TellsOfWalk true first second IsLeftAlone MayOpen before after old new status =
     WritesAnswer walk_text walk_status (MayWalkUnchecked first second IsLeftAlone MayOpen before after) old new status
 
-abbrev pub TellsOfBases : Bool → List (List ℕ) → Type 0 → (Result (List Layer) OpenError → Type 0) → ℕ → ℕ
+abbrev pub TellsOfBases : Bool → List (List ℕ) → Type 0 → (ℕ → ℕ → Result (List Layer) OpenError → Type 0) → ℕ → ℕ
     → Option (List ℕ) → Option (List ℕ) → ℕ → Type 0
 TellsOfBases false ids IsLeftAlone MayOpen before after old new status =
-    WritesAnswer merge_base_text merge_base_status (MayCompare ids IsLeftAlone MayOpen) old new status
+    WritesAnswer merge_base_text merge_base_status (MayCompare ids IsLeftAlone (MayOpen before after)) old new status
 TellsOfBases true ids IsLeftAlone MayOpen before after old new status =
     WritesAnswer told_bases_text told_bases_status (MayCompareUnchecked ids IsLeftAlone MayOpen before after) old new status
 
-abbrev pub TellsOfBaseIds : Bool → List (List ℕ) → Type 0 → (Result (List Layer) OpenError → Type 0) → ℕ → ℕ
+abbrev pub TellsOfBaseIds : Bool → List (List ℕ) → Type 0 → (ℕ → ℕ → Result (List Layer) OpenError → Type 0) → ℕ → ℕ
     → Option (List ℕ) → Option (List ℕ) → ℕ → Type 0
 TellsOfBaseIds false ids IsLeftAlone MayOpen before after old new status =
-    WritesAnswer merge_base_ids_text merge_base_status (MayCompare ids IsLeftAlone MayOpen) old new status
+    WritesAnswer merge_base_ids_text merge_base_status (MayCompare ids IsLeftAlone (MayOpen before after)) old new status
 TellsOfBaseIds true ids IsLeftAlone MayOpen before after old new status =
     WritesAnswer told_ids_text told_bases_status (MayCompareUnchecked ids IsLeftAlone MayOpen before after) old new status
 
@@ -114,16 +115,16 @@ HistorytoolMayWrite (command.Version text) input unread IsLeftAlone MayOpenAt be
     IsLeftAlone × TellsOfItself text.now old new status
 HistorytoolMayWrite (command.IsAncestor pair) input unread IsLeftAlone MayOpenAt before after old new status =
     TellsOfAncestor pair.unchecked pair.first.now pair.second.now IsLeftAlone
-    (MayOpenAt pair.path.now before after) before after old new status
+    (MayOpenAt pair.path.now) before after old new status
 HistorytoolMayWrite (command.Walk pair) input unread IsLeftAlone MayOpenAt before after old new status =
     TellsOfWalk pair.unchecked pair.first.now pair.second.now IsLeftAlone
-    (MayOpenAt pair.path.now before after) before after old new status
+    (MayOpenAt pair.path.now) before after old new status
 HistorytoolMayWrite (command.MergeBase group) input unread IsLeftAlone MayOpenAt before after old new status =
     TellsOfBases group.unchecked (group.first.now ∷ map string_bytes group.others.now) IsLeftAlone
-    (MayOpenAt group.path.now before after) before after old new status
+    (MayOpenAt group.path.now) before after old new status
 HistorytoolMayWrite (command.MergeBaseIds group) input unread IsLeftAlone MayOpenAt before after old new status =
     TellsOfBaseIds group.unchecked (group.first.now ∷ map string_bytes group.others.now) IsLeftAlone
-    (MayOpenAt group.path.now before after) before after old new status
+    (MayOpenAt group.path.now) before after old new status
 HistorytoolMayWrite (command.Check path) input unread IsLeftAlone MayOpenAt before after old new status =
     WritesAnswer check_text check_status (MayFindInAll (MayOpenAt path.now before after)) old new status
 HistorytoolMayWrite (command.Show path) input unread IsLeftAlone MayOpenAt before after old new status =

@@ -395,8 +395,8 @@ impl Pair<'_> {
     ) -> Result<u8, WriteFailed>
         ensures written { IfOk result (TellsOfAncestor self.entry.unchecked
             self.entry.first.now self.entry.second.now (folder.new ≡ folder.old)
-            (MayOpen (T.tree folder.old) self.entry.path.now (T.failure_count folder.old)
-            (T.failure_count folder.new)) (T.failure_count folder.old) (T.failure_count folder.new)
+            (MayOpen (T.tree folder.old) self.entry.path.now)
+            (T.failure_count folder.old) (T.failure_count folder.new)
             (W.contents output.old) (W.contents output.new)) }
         ensures tree { T.tree folder.new ≡ T.tree folder.old }
     {
@@ -422,8 +422,8 @@ impl Pair<'_> {
     ) -> Result<u8, WriteFailed>
         ensures written { IfOk result (TellsOfWalk self.entry.unchecked
             self.entry.first.now self.entry.second.now (folder.new ≡ folder.old)
-            (MayOpen (T.tree folder.old) self.entry.path.now (T.failure_count folder.old)
-            (T.failure_count folder.new)) (T.failure_count folder.old) (T.failure_count folder.new)
+            (MayOpen (T.tree folder.old) self.entry.path.now)
+            (T.failure_count folder.old) (T.failure_count folder.new)
             (W.contents output.old) (W.contents output.new)) }
         ensures tree { T.tree folder.new ≡ T.tree folder.old }
     {
@@ -452,8 +452,8 @@ impl Group<'_> {
         ensures written { IfOk result (TellsOfBases self.entry.unchecked
             (self.entry.first.now ∷ map string_bytes self.entry.others.now)
             (folder.new ≡ folder.old)
-            (MayOpen (T.tree folder.old) self.entry.path.now (T.failure_count folder.old)
-            (T.failure_count folder.new)) (T.failure_count folder.old) (T.failure_count folder.new)
+            (MayOpen (T.tree folder.old) self.entry.path.now)
+            (T.failure_count folder.old) (T.failure_count folder.new)
             (W.contents output.old) (W.contents output.new)) }
         ensures tree { T.tree folder.new ≡ T.tree folder.old }
     {
@@ -481,8 +481,8 @@ impl Group<'_> {
         ensures written { IfOk result (TellsOfBaseIds self.entry.unchecked
             (self.entry.first.now ∷ map string_bytes self.entry.others.now)
             (folder.new ≡ folder.old)
-            (MayOpen (T.tree folder.old) self.entry.path.now (T.failure_count folder.old)
-            (T.failure_count folder.new)) (T.failure_count folder.old) (T.failure_count folder.new)
+            (MayOpen (T.tree folder.old) self.entry.path.now)
+            (T.failure_count folder.old) (T.failure_count folder.new)
             (W.contents output.old) (W.contents output.new)) }
         ensures tree { T.tree folder.new ≡ T.tree folder.old }
     {

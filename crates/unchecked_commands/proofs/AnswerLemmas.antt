@@ -1,11 +1,12 @@
 -- what is answered by parts, and by the command that checks the graph
-use Rattle.std.proofs.Common.{◌≡◌, ◌⊎◌, ℕ, List, Bool, Option, Some, None, Result, Ok, Err, IfOk, inl, inr, refl, sym, subst}
-use Rattle.std.proofs.Common.{⊎_elim}
+use Rattle.std.proofs.Common.{◌≡◌, ◌∙◌, ℕ, List, Bool, Option, Some, None, Result, Ok, Err, IfOk, IsOkAnd, inl, refl, sym, ap}
+use Rattle.std.proofs.Common.{subst, ⊎_elim}
 use Rattle.std.specs.Option.{ForSome}
 use Rattle.hex.proofs.HexLemmas.{decode_of-ok}
 use Rattle.gix_hash_core.specs.Hexadecimal.{SpellsId, SpellsNone}
 use Rattle.gix_hash_core.specs.declared.object_id.IdError.{IdError}
 use Rattle.gix_hash_core.specs.declared.object_id.IdError.TheVariants.{Length, Digit}
+use Rattle.graph_folder.specs.Failures.{one_more}
 use Rattle.graph_folder.specs.Tree.{Tree}
 use Rattle.graph_format.specs.Layer.{Layer}
 use Rattle.graph_layer.specs.declared.opening.error.OpenError.{OpenError}
@@ -16,6 +17,7 @@ use Rattle.graph_commands.specs.WrittenAnswer.{WritesAnswer}
 use Rattle.graph_commands.specs.declared.refusal.Refusal.{Refusal}
 use Rattle.graph_commands.specs.declared.refusal.Refusal.TheVariants.{Id, Read, File, Open, Verify, Walk}
 use Rattle.graph_unchecked.specs.Unchecked.{IsAnswerAt, IsFoundBetween, IsToldUnchecked}
+use Rattle.graph_unchecked.specs.Unread.{failures_after_reads}
 use Rattle.graph_unchecked.specs.declared.between.Between.{Between}
 use Rattle.graph_unchecked.specs.declared.between.Between.TheVariants.{FirstMissing, SecondMissing, Known}
 use Rattle.graph_unchecked.specs.declared.unread.Unread.{Unread}
@@ -23,10 +25,10 @@ use Rattle.graph_unchecked.specs.declared.unread.Unread.TheVariants.{Device, Out
 use Rattle.history_commands.specs.IsAncestor.{IsTold}
 use Rattle.history_commands.specs.Question.{MayAnswer}
 use Rattle.history_commands.specs.declared.question.Answer.{Answer}
-use Rattle.unchecked_commands.specs.OnlyGraph.{IsOnlyGraph, answer_unread}
+use Rattle.unchecked_commands.specs.OnlyAnswer.{IsOnlyAnswer, answer_unread}
 use Rattle.unchecked_commands.specs.UncheckedAncestor.{IsYesSo, answer_by_parts, answer_of}
 use Rattle.unchecked_commands.specs.UncheckedAnswer.{IsFoundUnchecked, MayAnswerUnchecked}
-use Rattle.unchecked_commands.proofs.OnlyGraphLemmas.{so_of_only}
+use Rattle.unchecked_commands.proofs.OnlyAnswerLemmas.{so_of_only}
 
 pub none_spelled : (text id : List ℕ) (error : IdError) → SpellsNone text error → SpellsId text id → ⊥
 none_spelled text id Length none spells = none spells.0
@@ -52,11 +54,11 @@ told-found : (layers : List Layer) (a b : List ℕ) (found : Between Bool) → I
     → IsFoundUnchecked IsTold IsYesSo layers a b (answer_of found)
 told-found layers a b FirstMissing so = record {
   right = λ sound. sym (sound-scanned layers a None sound so);
-  there = λ told is. cc;
+  there = so;
 }
 told-found layers a b SecondMissing so = record {
   right = λ sound. (so.0, sym (sound-scanned layers a (Some so.0) sound so.1), sym (sound-scanned layers b None sound so.2));
-  there = λ told is. cc;
+  there = so;
 }
 told-found layers a b (Known told) so = record {
   right = λ sound. (
@@ -66,44 +68,39 @@ told-found layers a b (Known told) so = record {
     sym (sound-scanned layers b (Some so.1) sound so.3),
     (so.4.there, so.4.all sound.generations),
   );
-  there = λ known is.
-      let same : told ≡ known = cc in
-      (so.0, so.1, so.2, so.3, subst (λ (t : Bool). IsYesSo layers so.0 so.1 t) same so.4.there);
+  there = (so.0, so.1, so.2, so.3, so.4.there);
 }
 
-pub told-of_only : (known : Option Tree) (path : List ℕ) (old new : ℕ) (a b : List ℕ) (found : Between Bool) → new ≡ old
-    → ForSome known (λ tree. IsAnswerAt tree path (IsFoundBetween IsToldUnchecked a b) found) → (layers : List Layer)
-    → IsOnlyGraph (MayOpen known path old new) layers → IsFoundUnchecked IsTold IsYesSo layers a b (answer_of found)
-told-of_only known path old new a b found kept so layers one =
-    told-found layers a b found
-    (so_of_only known path old new (IsFoundBetween IsToldUnchecked a b) found kept so layers one)
+pub told-of_only : (known : Option Tree) (path a b : List ℕ) (found : Between Bool)
+    → ForSome known (λ tree. IsAnswerAt tree path (IsFoundBetween IsToldUnchecked a b) found)
+    → (opened : Result (List Layer) OpenError) → IsOnlyAnswer (MayOpen known path) opened
+    → IsOkAnd opened (λ layers. IsFoundUnchecked IsTold IsYesSo layers a b (answer_of found))
+told-of_only known path a b found so =
+    so_of_only known path (IsFoundBetween IsToldUnchecked a b) found
+    (λ layers. IsFoundUnchecked IsTold IsYesSo layers a b (answer_of found)) (λ layers is. told-found layers a b found is) so
 
 -- What is answered where nothing was read by parts. Only a failed read changes the count of failures.
 pub unread-answered : {A B : Type 0} (May : Result (Option B) Refusal → Type 0) (old new : ℕ) (why : Unread)
-    (result : Result A Unread) → result ≡ Err why → (result ≡ Err Device) ⊎ (new ≡ old)
-    → May (Err (Open open_error.Device)) → (new ≡ old → May (Err Walk)) → (new ≡ old → May (Ok None)) → May (answer_unread why)
-unread-answered May old new Device result is met failed wants whole = failed
-unread-answered May old new OutOfMemory result is (inl device) failed wants whole = cc
-unread-answered May old new OutOfMemory result is (inr kept) failed wants whole = wants kept
-unread-answered May old new NotByParts result is (inl device) failed wants whole = cc
-unread-answered May old new NotByParts result is (inr kept) failed wants whole = whole kept
-
--- no other answer comes after a failed read
-pub kept-unless : {A : Type 0} (result : Result A Unread) (old new : ℕ) → (result ≡ Err Device → ⊥)
-    → (result ≡ Err Device) ⊎ (new ≡ old) → new ≡ old
-kept-unless result old new other (inl device) = absurd (other device)
-kept-unless result old new other (inr kept) = kept
+    (result : Result A Unread) → result ≡ Err why → new ≡ failures_after_reads result old
+    → (new ≡ one_more old → May (Err (Open open_error.Device))) → (new ≡ old → May (Err Walk)) → (new ≡ old → May (Ok None))
+    → May (answer_unread why)
+unread-answered {A} May old new Device result is counted failed wants whole =
+    failed (counted ∙ ap (λ (r : Result A Unread). failures_after_reads r old) is)
+unread-answered {A} May old new OutOfMemory result is counted failed wants whole =
+    wants (counted ∙ ap (λ (r : Result A Unread). failures_after_reads r old) is)
+unread-answered {A} May old new NotByParts result is counted failed wants whole =
+    whole (counted ∙ ap (λ (r : Result A Unread). failures_after_reads r old) is)
 
 -- what is answered of two ids
 pub answered : {A : Type 0} (May : Result (Option (Answer A)) Refusal → Type 0) (old new : ℕ)
-    (result : Result (Between A) Unread) → (result ≡ Err Device) ⊎ (new ≡ old)
+    (result : Result (Between A) Unread) → new ≡ failures_after_reads result old
     → ((found : Between A) → result ≡ Ok found → new ≡ old → May (Ok (Some (answer_of found))))
-    → May (Err (Open open_error.Device)) → (new ≡ old → May (Err Walk)) → (new ≡ old → May (Ok None))
+    → (new ≡ one_more old → May (Err (Open open_error.Device))) → (new ≡ old → May (Err Walk)) → (new ≡ old → May (Ok None))
     → May (answer_by_parts result)
-answered May old new (Ok found) (inl device) known failed wants whole = cc
-answered May old new (Ok found) (inr kept) known failed wants whole = known found refl kept
-answered May old new (Err why) met known failed wants whole =
-    unread-answered May old new why (Err why) refl met failed wants whole
+answered May old new (Ok found) counted known failed wants whole = known found refl counted
+answered {A} May old new (Err why) counted known failed wants whole =
+    let result : Result (Between A) Unread = Err why in
+    unread-answered {A = Between A} May old new why result refl counted failed wants whole
 
 -- what the command wrote that checks the graph
 pub checked : {A E : Type 0} (IsSo IsThere : List Layer → ℕ → ℕ → A → Type 0) (text_of : Result (Answer A) Refusal → List ℕ)
@@ -113,7 +110,7 @@ pub checked : {A E : Type 0} (IsSo IsThere : List Layer → ℕ → ℕ → A �
     → IfOk result (WritesAnswer text_of status_of
     (MayAnswer IsSo first second IsLeftAlone (MayOpen seen path from new)) before after)
     → IfOk result (WritesAnswer text_of status_of
-    (MayAnswerUnchecked IsSo IsThere first second WasLeftAlone (MayOpen known path old new) old new) before after)
+    (MayAnswerUnchecked IsSo IsThere first second WasLeftAlone (MayOpen known path) old new) before after)
 checked IsSo IsThere text_of status_of first second a b IsLeftAlone WasLeftAlone known seen path old from new (Ok status) before
     after one other same counted written =
     let answer = written.0 in

@@ -1,6 +1,6 @@
 -- what is answered by parts of merge bases, and by the commands that check the graph
 use Rattle.std.proofs.Common.{◌≡◌, ◌⊎◌, ℕ, List, [], ◌∷◌, ◌++◌, All, Option, Some, None, Result, Ok, Err, IfOk, inl, inr, refl}
-use Rattle.std.proofs.Common.{sym, ap, subst, map, take, ◌∙◌, codes, ◌+◌, ◌<◌, ◌≤◌, arith, get_or, length, min}
+use Rattle.std.proofs.Common.{IsOkAnd, sym, ap, subst, map, take, ◌∙◌, codes, ◌+◌, ◌<◌, ◌≤◌, arith, get_or, length, min}
 use Rattle.std.proofs.KnownBytes.{Appends-trans}
 use Rattle.std.proofs.lemmas.List.{flat_map_more, take_all, take_more}
 use Rattle.std.proofs.lemmas.List.Elements.{All-cons, All-head, All-nil, All-tail}
@@ -38,12 +38,12 @@ use Rattle.history_commands.specs.Walk.{id_in, id_line}
 use Rattle.history_commands.specs.declared.bases.Compared.{Compared}
 use Rattle.history_commands.specs.declared.bases.Compared.TheVariants.{Unknown, Known}
 use Rattle.history_commands.proofs.BasesLemmas.{wants}
-use Rattle.unchecked_commands.specs.OnlyGraph.{IsOnlyGraph}
+use Rattle.unchecked_commands.specs.OnlyAnswer.{IsOnlyAnswer}
 use Rattle.unchecked_commands.specs.UncheckedBases.{AreCompared, IsToldByParts, MayCompareUnchecked, MayHaveLines, ToldBases}
 use Rattle.unchecked_commands.specs.UncheckedBases.{ids_of_bases, line_of_told, lines_or_none, told_among}
 use Rattle.unchecked_commands.specs.UncheckedBases.{told_bases_text, told_bases_status, told_ids_text, told_in}
 use Rattle.unchecked_commands.proofs.AnswerLemmas.{none_spelled}
-use Rattle.unchecked_commands.proofs.OnlyGraphLemmas.{so_of_only}
+use Rattle.unchecked_commands.proofs.OnlyAnswerLemmas.{so_of_only}
 use Rattle.unchecked_commands.proofs.WalkLemmas.{ids-same}
 
 -- ---- What is found in a graph.
@@ -85,7 +85,7 @@ bases-found layers ids (Missing number) so = record {
     ),
     so.1,
   );
-  there = tt;
+  there = so;
   named = refl;
 }
 bases-found layers ids (known_of_all answer) so = record {
@@ -95,15 +95,17 @@ bases-found layers ids (known_of_all answer) so = record {
     at-each layers sound ids (so.0 ∷ so.1) so.2,
     compared-in layers so.0 so.1 answer.comparison (so.3.exact sound.generations),
   );
-  there = (so.0, so.1, so.2, so.3.common);
+  there = (so.0, so.1, so.2, so.3.common, so.3.visits);
   named = so.3.ids ∙ ids-same layers (numbers_of answer.comparison.bases.positions.items);
 }
 
-pub bases-of_only : (known : Option Tree) (path : List ℕ) (old new : ℕ) (ids : List (List ℕ)) (found : Among IdComparison)
-    → new ≡ old → ForSome known (λ tree. IsAnswerAt tree path (IsFoundAmong IsComparedUnchecked ids) found)
-    → (layers : List Layer) → IsOnlyGraph (MayOpen known path old new) layers → IsToldByParts layers ids (told_among found)
-bases-of_only known path old new ids found kept so layers one =
-    bases-found layers ids found (so_of_only known path old new (IsFoundAmong IsComparedUnchecked ids) found kept so layers one)
+pub bases-of_only : (known : Option Tree) (path : List ℕ) (ids : List (List ℕ)) (found : Among IdComparison)
+    → ForSome known (λ tree. IsAnswerAt tree path (IsFoundAmong IsComparedUnchecked ids) found)
+    → (opened : Result (List Layer) OpenError) → IsOnlyAnswer (MayOpen known path) opened
+    → IsOkAnd opened (λ layers. IsToldByParts layers ids (told_among found))
+bases-of_only known path ids found so =
+    so_of_only known path (IsFoundAmong IsComparedUnchecked ids) found (λ layers. IsToldByParts layers ids (told_among found))
+    (λ layers is. bases-found layers ids found is) so
 
 -- ---- The lines are those of the commands that check the graph.
 
@@ -153,9 +155,10 @@ none_of_all (text ∷ texts) (id ∷ ids) error spelled (inl none) = none_spelle
 none_of_all (text ∷ texts) (id ∷ ids) error spelled (inr later) = none_of_all texts ids error spelled.1 later.2
 
 -- for texts of ids a refusal is not one that left the folder alone, but for want of memory
-refused-ids : (texts ids : List (List ℕ)) (IsLeftAlone WasLeftAlone : Type 0) (Opens : Result (List Layer) OpenError → Type 0)
-    (before after : ℕ) (refusal : Refusal) → AllZip SpellsId texts ids → (IsLeftAlone → after ≡ before)
-    → MayRefuseAll texts IsLeftAlone Opens refusal → MayCompareUnchecked texts WasLeftAlone Opens before after (Err refusal)
+refused-ids : (texts ids : List (List ℕ)) (IsLeftAlone WasLeftAlone : Type 0)
+    (Opens : ℕ → ℕ → Result (List Layer) OpenError → Type 0) (before after : ℕ) (refusal : Refusal)
+    → AllZip SpellsId texts ids → (IsLeftAlone → after ≡ before)
+    → MayRefuseAll texts IsLeftAlone (Opens before after) refusal → MayCompareUnchecked texts WasLeftAlone Opens before after (Err refusal)
 refused-ids texts ids IsLeftAlone WasLeftAlone Opens before after (Id error) spelled kept may =
     absurd (none_of_all texts ids error spelled may.0)
 refused-ids texts ids IsLeftAlone WasLeftAlone Opens before after (Read error) spelled kept may = absurd may
@@ -172,9 +175,9 @@ module _ (text_of : Result (List Layer × Compared) Refusal → List ℕ) (told_
     (same : (layers : List Layer) (compared : Compared)
     → told_text_of (Ok (told_in layers compared)) ≡ text_of (Ok (layers, compared)))
     (refused : (refusal : Refusal) → told_text_of (Err refusal) ≡ text_of (Err refusal)) (texts ids : List (List ℕ))
-    (IsLeftAlone WasLeftAlone : Type 0) (Opens : Result (List Layer) OpenError → Type 0) (before after : ℕ)
+    (IsLeftAlone WasLeftAlone : Type 0) (Opens : ℕ → ℕ → Result (List Layer) OpenError → Type 0) (before after : ℕ)
     (spelled : AllZip SpellsId texts ids) (kept : IsLeftAlone → after ≡ before) (old new : Option (List ℕ)) (status : ℕ) where
-  checked-answer : (answer : Result (List Layer × Compared) Refusal) → MayCompare texts IsLeftAlone Opens answer
+  checked-answer : (answer : Result (List Layer × Compared) Refusal) → MayCompare texts IsLeftAlone (Opens before after) answer
       → Appends old new (text_of answer) → status ≡ merge_base_status answer
       → WritesAnswer told_text_of told_bases_status (MayCompareUnchecked texts WasLeftAlone Opens before after) old new status
   checked-answer (Ok (layers, compared)) may written is = (
@@ -200,7 +203,7 @@ pub checked-bases : {E : Type 0} (text_of : Result (List Layer × Compared) Refu
     (old new : Option (List ℕ)) → AllZip SpellsId texts ids → (IsLeftAlone → after ≡ before) → seen ≡ known → from ≡ before
     → IfOk result (WritesAnswer text_of merge_base_status (MayCompare texts IsLeftAlone (MayOpen seen path from after)) old new)
     → IfOk result (WritesAnswer told_text_of told_bases_status
-    (MayCompareUnchecked texts WasLeftAlone (MayOpen known path before after) before after) old new)
+    (MayCompareUnchecked texts WasLeftAlone (MayOpen known path) before after) old new)
 checked-bases text_of told_text_of same refused texts ids IsLeftAlone WasLeftAlone known seen path before from after (Ok status)
     old new spelled kept tree counted written =
     let answer = written.0 in
@@ -208,7 +211,7 @@ checked-bases text_of told_text_of same refused texts ids IsLeftAlone WasLeftAlo
     subst (λ (n : ℕ). MayCompare texts IsLeftAlone (MayOpen seen path n after) answer) counted written.1 in
     let may =
     subst (λ (t : Option Tree). MayCompare texts IsLeftAlone (MayOpen t path before after) answer) tree at_before in
-    checked-answer text_of told_text_of same refused texts ids IsLeftAlone WasLeftAlone (MayOpen known path before after) before
+    checked-answer text_of told_text_of same refused texts ids IsLeftAlone WasLeftAlone (MayOpen known path) before
     after spelled kept old new status answer may written.2 written.3
 checked-bases text_of told_text_of same refused texts ids IsLeftAlone WasLeftAlone known seen path before from after (Err failed)
     old new spelled kept tree counted written = tt
@@ -216,13 +219,13 @@ checked-bases text_of told_text_of same refused texts ids IsLeftAlone WasLeftAlo
 -- ---- What is written of what was found by parts.
 
 -- where merge bases may be answered, there may be no memory to write them
-pub bases_want : (texts : List (List ℕ)) (IsLeftAlone : Type 0) (Opens : Result (List Layer) OpenError → Type 0)
+pub bases_want : (texts : List (List ℕ)) (IsLeftAlone : Type 0) (Opens : ℕ → ℕ → Result (List Layer) OpenError → Type 0)
     (before after : ℕ) (found : Among IdComparison)
     → MayCompareUnchecked texts IsLeftAlone Opens before after (Ok (told_among found)) → MayHaveLines (told_among found)
     → MayCompareUnchecked texts IsLeftAlone Opens before after (Err Walk)
 bases_want texts IsLeftAlone Opens before after (Missing number) may has = absurd has
 bases_want texts IsLeftAlone Opens before after (known_of_all answer) (inl may) has =
-    inl (wants texts IsLeftAlone Opens may.0 (Known answer.comparison) may.1 tt)
+    inl (wants texts IsLeftAlone (Opens before after) may.0 (Known answer.comparison) may.1 tt)
 bases_want texts IsLeftAlone Opens before after (known_of_all answer) (inr may) has = inr (may.0, may.1, may.2.0)
 
 -- whether there are bases, and their lines

@@ -1,4 +1,4 @@
 pub mod AnswerLemmas
 pub mod BasesLemmas
-pub mod OnlyGraphLemmas
+pub mod OnlyAnswerLemmas
 pub mod WalkLemmas

@@ -1,5 +1,5 @@
 -- what is answered by parts of the walk between two commits
-use Rattle.std.proofs.Common.{◌≡◌, ℕ, List, [], ◌∷◌, Option, Some, None, Result, Ok, Err, Vec, inl, inr, refl, sym, ap, subst}
+use Rattle.std.proofs.Common.{◌≡◌, ℕ, List, [], ◌∷◌, Option, Some, None, Result, Ok, Err, IsOkAnd, Vec, inl, inr, refl, sym, ap}
 use Rattle.std.proofs.Common.{map, ◌∙◌}
 use Rattle.std.proofs.lemmas.Option.{unwrap_or-slice_get}
 use Rattle.std.specs.Global.{Global}
@@ -19,11 +19,11 @@ use Rattle.history_commands.specs.Walk.{IsWalkOfIds, MayBeWalk, id_in}
 use Rattle.history_commands.specs.declared.question.Answer.{Answer}
 use Rattle.history_commands.specs.declared.question.Answer.TheVariants.{FirstUnknown, SecondUnknown, Known}
 use Rattle.history_commands.proofs.AskLemmas.{wants}
-use Rattle.unchecked_commands.specs.OnlyGraph.{IsOnlyGraph}
+use Rattle.unchecked_commands.specs.OnlyAnswer.{IsOnlyAnswer}
 use Rattle.unchecked_commands.specs.UncheckedAncestor.{answer_of}
 use Rattle.unchecked_commands.specs.UncheckedAnswer.{IsFoundUnchecked}
 use Rattle.unchecked_commands.specs.UncheckedWalk.{IsWalkThere, MayWalkUnchecked, listed_walk}
-use Rattle.unchecked_commands.proofs.OnlyGraphLemmas.{so_of_only}
+use Rattle.unchecked_commands.proofs.OnlyAnswerLemmas.{so_of_only}
 
 -- the ids of the commits on a walk
 pub ids-same : (layers : List Layer) (walk : List ℕ) → ids_at layers walk ≡ map (id_in layers) walk
@@ -38,11 +38,11 @@ walk-found : (layers : List Layer) (a b : List ℕ) (found : Between (Option (Ve
     → IsFoundUnchecked IsWalkOfIds IsWalkThere layers a b (listed_walk (answer_of found))
 walk-found layers a b between.FirstMissing so = record {
   right = λ sound. sym (sound-scanned layers a None sound so);
-  there = λ told is. cc;
+  there = so;
 }
 walk-found layers a b between.SecondMissing so = record {
   right = λ sound. (so.0, sym (sound-scanned layers a (Some so.0) sound so.1), sym (sound-scanned layers b None sound so.2));
-  there = λ told is. cc;
+  there = so;
 }
 walk-found layers a b (between.Known None) so = record {
   right = λ sound. (
@@ -52,9 +52,7 @@ walk-found layers a b (between.Known None) so = record {
     sym (sound-scanned layers b (Some so.1) sound so.3),
     so.4.none sound.generations,
   );
-  there = λ known is.
-      let same : None ≡ known = cc in
-      (so.0, so.1, so.2, so.3, subst (λ (t : Option (List (List ℕ))). IsWalkThere layers so.0 so.1 t) same tt);
+  there = (so.0, so.1, so.2, so.3, tt);
 }
 walk-found layers a b (between.Known (Some ids)) so = record {
   right = λ sound.
@@ -65,28 +63,21 @@ walk-found layers a b (between.Known (Some ids)) so = record {
         sym (sound-scanned layers b (Some so.1) sound so.3),
         (shortest.0, shortest.1, shortest.2 ∙ ids-same layers shortest.0),
       );
-  there = λ known is.
-      let same : Some ids.items ≡ known = cc in
-      let walk = so.4.there in (
-        so.0,
-        so.1,
-        so.2,
-        so.3,
-        subst (λ (t : Option (List (List ℕ))). IsWalkThere layers so.0 so.1 t) same
-            (walk.0, walk.1, walk.2 ∙ ids-same layers walk.0),
-      );
+  there =
+      let walk = so.4.there in (so.0, so.1, so.2, so.3, (walk.0, walk.1, walk.2 ∙ ids-same layers walk.0));
 }
 
-pub walk-of_only : (known : Option Tree) (path : List ℕ) (old new : ℕ) (a b : List ℕ)
-    (found : Between (Option (Vec (List ℕ) Global))) → new ≡ old
-    → ForSome known (λ tree. IsAnswerAt tree path (IsFoundBetween IsWalkUnchecked a b) found) → (layers : List Layer)
-    → IsOnlyGraph (MayOpen known path old new) layers
-    → IsFoundUnchecked IsWalkOfIds IsWalkThere layers a b (listed_walk (answer_of found))
-walk-of_only known path old new a b found kept so layers one =
-    walk-found layers a b found (so_of_only known path old new (IsFoundBetween IsWalkUnchecked a b) found kept so layers one)
+pub walk-of_only : (known : Option Tree) (path a b : List ℕ) (found : Between (Option (Vec (List ℕ) Global)))
+    → ForSome known (λ tree. IsAnswerAt tree path (IsFoundBetween IsWalkUnchecked a b) found)
+    → (opened : Result (List Layer) OpenError) → IsOnlyAnswer (MayOpen known path) opened
+    → IsOkAnd opened (λ layers. IsFoundUnchecked IsWalkOfIds IsWalkThere layers a b (listed_walk (answer_of found)))
+walk-of_only known path a b found so =
+    so_of_only known path (IsFoundBetween IsWalkUnchecked a b) found
+    (λ layers. IsFoundUnchecked IsWalkOfIds IsWalkThere layers a b (listed_walk (answer_of found)))
+    (λ layers is. walk-found layers a b found is) so
 
 -- where a walk may be answered, there may be no memory to write it
-pub walk_wants : (first second : List ℕ) (IsLeftAlone : Type 0) (Opens : Result (List Layer) OpenError → Type 0)
+pub walk_wants : (first second : List ℕ) (IsLeftAlone : Type 0) (Opens : ℕ → ℕ → Result (List Layer) OpenError → Type 0)
     (before after : ℕ) (found : Answer (Option (Vec (List ℕ) Global)))
     → MayWalkUnchecked first second IsLeftAlone Opens before after (Ok (listed_walk found)) → MayBeWalk (listed_walk found)
     → MayWalkUnchecked first second IsLeftAlone Opens before after (Err Walk)
@@ -94,7 +85,7 @@ walk_wants first second IsLeftAlone Opens before after FirstUnknown may is = abs
 walk_wants first second IsLeftAlone Opens before after SecondUnknown may is = absurd is
 walk_wants first second IsLeftAlone Opens before after (Known None) may is = absurd is
 walk_wants first second IsLeftAlone Opens before after (Known (Some ids)) (inl may) is =
-    inl (wants IsWalkOfIds first second IsLeftAlone Opens (Some ids.items) may)
+    inl (wants IsWalkOfIds first second IsLeftAlone (Opens before after) (Some ids.items) may)
 walk_wants first second IsLeftAlone Opens before after (Known (Some ids)) (inr may) is =
     inr (may.0, may.1, may.2, may.3, may.4.0)
 

@@ -1,4 +1,4 @@
-pub mod OnlyGraph
+pub mod OnlyAnswer
 pub mod UncheckedAnswer
 pub mod UncheckedAncestor
 pub mod UncheckedWalk

@@ -11,7 +11,7 @@ use Rattle.graph_unchecked.specs.declared.unread.Unread.{Unread}
 use Rattle.history_commands.specs.IsAncestor.{IsTold}
 use Rattle.history_commands.specs.declared.question.Answer.{Answer}
 use Rattle.history_commands.specs.declared.question.Answer.TheVariants.{FirstUnknown, SecondUnknown, Known}
-use Rattle.unchecked_commands.specs.OnlyGraph.{answer_unread}
+use Rattle.unchecked_commands.specs.OnlyAnswer.{answer_unread}
 use Rattle.unchecked_commands.specs.UncheckedAnswer.{MayAnswerUnchecked}
 
 -- a yes is so: a walk along parents leads from the second commit to the first
@@ -20,7 +20,7 @@ IsYesSo layers first second told = IsTrue told → Reaches (history_of layers) s
 
 -- what `is-ancestor --unchecked` may answer: what `is-ancestor` may; or what was read by parts, of which a yes is so in any
 -- graph, and all of it in one that is right
-abbrev pub MayTellUnchecked : List ℕ → List ℕ → Type 0 → (Result (List Layer) OpenError → Type 0) → ℕ → ℕ
+abbrev pub MayTellUnchecked : List ℕ → List ℕ → Type 0 → (ℕ → ℕ → Result (List Layer) OpenError → Type 0) → ℕ → ℕ
     → Result (Answer Bool) Refusal → Type 0
 MayTellUnchecked first second IsLeftAlone MayOpen before after answer =
     MayAnswerUnchecked IsTold IsYesSo first second IsLeftAlone MayOpen before after answer

@@ -1,11 +1,14 @@
 -- the answers of `merge-base --unchecked` and of `merge-base-ids --unchecked`, and their texts
-use Rattle.std.specs.Prelude.{◌≡◌, ◌⊎◌, ℕ, List, [], ◌∷◌, All, Option, Some, None, Result, Ok, Err, ⊤, codes, map, option_map}
+use Rattle.std.specs.Prelude.{◌≡◌, ◌⊎◌, ℕ, ◌+◌, ◌*◌, ◌≤◌, List, [], ◌∷◌, All, Option, Some, None, Result, Ok, Err, ⊤, codes}
+use Rattle.std.specs.Prelude.{map, option_map, slice_get, take}
 use Rattle.std.specs.List.{AllZip, flat_map, zip}
 use Rattle.gix_hash_core.specs.Hexadecimal.{SpellsId}
 use Rattle.graph_format.specs.Layer.{Layer}
 use Rattle.graph_format.specs.StoredHistory.{history_of}
 use Rattle.graph_format.specs.declared.Position.{Position}
 use Rattle.graph_layer.specs.declared.opening.error.OpenError.{OpenError}
+use Rattle.gix_commitgraph.specs.Graph.{total}
+use Rattle.gix_commitgraph.specs.GraphLookup.{FoundIn}
 use Rattle.gix_commitgraph.specs.Sound.{Sound}
 use Rattle.commit_search.specs.Positions.{numbers_of}
 use Rattle.graph_bases.specs.Bases.{IsCommonAncestor}
@@ -20,7 +23,7 @@ use Rattle.history_commands.specs.MergeBases.{MayCompare, MayFindOfAll, compared
 use Rattle.history_commands.specs.Walk.{id_in, id_line}
 use Rattle.history_commands.specs.declared.bases.Compared.{Compared}
 use Rattle.history_commands.specs.declared.bases.Compared.TheVariants.{Unknown, Known}
-use Rattle.unchecked_commands.specs.OnlyGraph.{IsReadByParts}
+use Rattle.unchecked_commands.specs.OnlyAnswer.{IsReadByParts}
 
 -- what is told of some ids: what is found of their commits, and the ids of the merge bases
 pub record ToldBases : Type 0 where
@@ -36,15 +39,22 @@ ids_of_bases layers (Known comparison) = map (id_in layers) (numbers_of comparis
 abbrev pub told_in : List Layer → Compared → ToldBases
 told_in layers compared = record { compared = compared; base_ids = ids_of_bases layers compared }
 
--- each base is a common ancestor along parents, of commits with these ids
+-- the id with this number, which is 1 for the first, is the first of them that a lookup does not find
+abbrev pub IsFirstNotFound : List Layer → List (List ℕ) → ℕ → Type 0
+IsFirstNotFound layers ids number =
+    (place : ℕ) × (number ≡ place + 1) × All (λ id. (p : ℕ) × IsFoundAt layers id p) (take place ids)
+    × ((id : List ℕ) × (slice_get ids place ≡ Some id) × FoundIn layers id None)
+
+-- each base is a common ancestor along parents, of commits with these ids, and no commit was visited more than three times
 abbrev pub AreBasesThere : List Layer → List (List ℕ) → Compared → Type 0
-AreBasesThere layers ids (Unknown number) = ⊤
+AreBasesThere layers ids (Unknown number) = IsFirstNotFound layers ids number
 AreBasesThere layers ids (Known comparison) =
     (first : ℕ) × (others : List ℕ) × AllZip (IsFoundAt layers) ids (first ∷ others)
     × All (λ base. IsCommonAncestor (history_of layers) first others base.0) comparison.bases.positions.items
+    × (comparison.bases.visits ≤ 3 * total layers)
 
 -- What is told of some ids in a graph that is not checked. Where it is right, that is what the command finds that checks it. In
--- any graph the bases are common ancestors, and are told with their ids.
+-- any graph the id that is told is not found, or the bases are common ancestors, and are told with their ids.
 pub record IsToldByParts (layers : List Layer) (ids : List (List ℕ)) (told : ToldBases) : Type 0 where
   pub right : Sound layers → MayFindOfAll layers ids told.compared
   pub there : AreBasesThere layers ids told.compared
@@ -59,10 +69,10 @@ MayTellBases texts IsLeftAlone MayOpen (Err refusal) = MayCompare texts IsLeftAl
 
 -- what `merge-base --unchecked` and `merge-base-ids --unchecked` may answer for the texts of ids: what the commands may answer
 -- that check the graph, or what was read by parts
-abbrev pub MayCompareUnchecked : List (List ℕ) → Type 0 → (Result (List Layer) OpenError → Type 0) → ℕ → ℕ
+abbrev pub MayCompareUnchecked : List (List ℕ) → Type 0 → (ℕ → ℕ → Result (List Layer) OpenError → Type 0) → ℕ → ℕ
     → Result ToldBases Refusal → Type 0
 MayCompareUnchecked texts IsLeftAlone MayOpen before after answer =
-    MayTellBases texts IsLeftAlone MayOpen answer
+    MayTellBases texts IsLeftAlone (MayOpen before after) answer
     ⊎ ((ids : List (List ℕ)) × AllZip SpellsId texts ids
     × IsReadByParts MayOpen before after (λ layers. IsToldByParts layers ids) answer)
 
@@ -113,7 +123,7 @@ told_among_by_parts (Ok found) = Ok (option_map told_among found)
 told_among_by_parts (Err refusal) = Err refusal
 
 -- it is answered by parts, if that is possible; if not, each text spells an id, and no read failed
-abbrev pub MayCompareByParts : List (List ℕ) → Type 0 → (Result (List Layer) OpenError → Type 0) → ℕ → ℕ
+abbrev pub MayCompareByParts : List (List ℕ) → Type 0 → (ℕ → ℕ → Result (List Layer) OpenError → Type 0) → ℕ → ℕ
     → Result (Option ToldBases) Refusal → Type 0
 MayCompareByParts texts IsLeftAlone MayOpen before after (Ok (Some told)) =
     MayCompareUnchecked texts IsLeftAlone MayOpen before after (Ok told)

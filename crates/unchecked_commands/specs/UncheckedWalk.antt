@@ -19,7 +19,7 @@ IsWalkThere layers first second None = ⊤
 
 -- what `walk --unchecked` may answer: what `walk` may; or what was read by parts, of which the ids are those on a walk in any
 -- graph, and on a shortest one in one that is right
-abbrev pub MayWalkUnchecked : List ℕ → List ℕ → Type 0 → (Result (List Layer) OpenError → Type 0) → ℕ → ℕ
+abbrev pub MayWalkUnchecked : List ℕ → List ℕ → Type 0 → (ℕ → ℕ → Result (List Layer) OpenError → Type 0) → ℕ → ℕ
     → Result (Answer (Option (List (List ℕ)))) Refusal → Type 0
 MayWalkUnchecked first second IsLeftAlone MayOpen before after answer =
     MayAnswerUnchecked IsWalkOfIds IsWalkThere first second IsLeftAlone MayOpen before after answer

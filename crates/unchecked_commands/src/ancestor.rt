@@ -41,8 +41,8 @@ pub fn run_is_ancestor_unchecked<T: Folder, W: Write>(
 ) -> Result<u8, WriteFailed>
     ensures written { IfOk result (WritesAnswer is_ancestor_text is_ancestor_status
         (MayTellUnchecked first.now second.now (folder.new ≡ folder.old)
-        (MayOpen (T.tree folder.old) path.now (T.failure_count folder.old)
-        (T.failure_count folder.new)) (T.failure_count folder.old) (T.failure_count folder.new))
+        (MayOpen (T.tree folder.old) path.now)
+        (T.failure_count folder.old) (T.failure_count folder.new))
         (W.contents writer.old) (W.contents writer.new)) }
     ensures tree { T.tree folder.new ≡ T.tree folder.old }
 {
@@ -66,8 +66,8 @@ fn told_by_parts<T: Folder>(
     second: &str,
 ) -> Result<Option<Answer<bool>>, Refusal>
     ensures may { MayAnswerByParts IsTold IsYesSo first.now second.now (folder.new ≡ folder.old)
-        (MayOpen (T.tree folder.old) path.now (T.failure_count folder.old)
-        (T.failure_count folder.new)) (T.failure_count folder.old) (T.failure_count folder.new)
+        (MayOpen (T.tree folder.old) path.now)
+        (T.failure_count folder.old) (T.failure_count folder.new)
         result }
     ensures tree { T.tree folder.new ≡ T.tree folder.old }
 {

@@ -53,8 +53,8 @@ pub fn run_merge_base_unchecked<T: Folder, W: Write>(
 ) -> Result<u8, WriteFailed>
     ensures written { IfOk result (WritesAnswer told_bases_text told_bases_status
         (MayCompareUnchecked (first.now ∷ map string_bytes others.now) (folder.new ≡ folder.old)
-        (MayOpen (T.tree folder.old) path.now (T.failure_count folder.old)
-        (T.failure_count folder.new)) (T.failure_count folder.old) (T.failure_count folder.new))
+        (MayOpen (T.tree folder.old) path.now)
+        (T.failure_count folder.old) (T.failure_count folder.new))
         (W.contents writer.old) (W.contents writer.new)) }
     ensures tree { T.tree folder.new ≡ T.tree folder.old }
 {
@@ -79,8 +79,8 @@ pub fn run_merge_base_ids_unchecked<T: Folder, W: Write>(
 ) -> Result<u8, WriteFailed>
     ensures written { IfOk result (WritesAnswer told_ids_text told_bases_status
         (MayCompareUnchecked (first.now ∷ map string_bytes others.now) (folder.new ≡ folder.old)
-        (MayOpen (T.tree folder.old) path.now (T.failure_count folder.old)
-        (T.failure_count folder.new)) (T.failure_count folder.old) (T.failure_count folder.new))
+        (MayOpen (T.tree folder.old) path.now)
+        (T.failure_count folder.old) (T.failure_count folder.new))
         (W.contents writer.old) (W.contents writer.new)) }
     ensures tree { T.tree folder.new ≡ T.tree folder.old }
 {
@@ -102,8 +102,8 @@ fn compare_by_parts<T: Folder>(
 ) -> Result<Option<Found>, Refusal>
     ensures may { MayCompareByParts (first.now ∷ map string_bytes others.now)
         (folder.new ≡ folder.old)
-        (MayOpen (T.tree folder.old) path.now (T.failure_count folder.old)
-        (T.failure_count folder.new)) (T.failure_count folder.old) (T.failure_count folder.new)
+        (MayOpen (T.tree folder.old) path.now)
+        (T.failure_count folder.old) (T.failure_count folder.new)
         (told_among_by_parts result) }
     ensures tree { T.tree folder.new ≡ T.tree folder.old }
 {

@@ -1,22 +1,22 @@
 //! Laws of the graph that stands at a path, and of the lines that are written of one.
 
-ghost use Rattle.std.specs.Prelude.{◌≡◌, ◌<◌, ◌-◌, ◌^◌, ℕ, List, Ok, Some};
+ghost use Rattle.std.specs.Prelude.{◌≡◌, ℕ, List, Ok, Some};
 ghost use Rattle.graph_folder.specs.Tree.{Tree};
 ghost use Rattle.graph_format.specs.Layer.{Layer};
+ghost use Rattle.graph_parts.specs.PathOpening.{opened_at};
 ghost use Rattle.graph_commands.specs.OpenerAnswer.{MayOpen};
 ghost use Rattle.history_commands.specs.MergeBases.{merge_base_text, merge_base_status};
 ghost use Rattle.history_commands.specs.MergeBases.{merge_base_ids_text};
 ghost use Rattle.history_commands.specs.declared.bases.Compared.{Compared};
-ghost use Rattle.unchecked_commands.specs.OnlyGraph.{IsOnlyGraph};
+ghost use Rattle.unchecked_commands.specs.OnlyAnswer.{IsOnlyAnswer};
 ghost use Rattle.unchecked_commands.specs.UncheckedBases.{told_bases_text, told_bases_status};
 ghost use Rattle.unchecked_commands.specs.UncheckedBases.{told_ids_text, told_in};
 
-/// Where it is known what stands in the folder, the opener can answer one graph alone, until so
-/// many reads failed that they are not counted any more.
-pub fn a_known_tree_has_one_graph()
-    ensures { (tree : Tree) (path : List ℕ) (before after : ℕ) (layers : List Layer)
-        → before < 2 ^ 64 - 1 → MayOpen (Some tree) path before after (Ok layers)
-        → IsOnlyGraph (MayOpen (Some tree) path before after) layers }
+/// Where it is known what stands in the folder, the opener has one answer alone: the graph that
+/// stands at the path, or why it is refused.
+pub fn a_known_tree_has_one_answer()
+    ensures { (tree : Tree) (path : List ℕ)
+        → IsOnlyAnswer (MayOpen (Some tree) path) (opened_at tree path) }
 {}
 
 /// Merge bases that were found by parts are told in the lines of the commands that check the graph,

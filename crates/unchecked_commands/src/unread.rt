@@ -1,7 +1,7 @@
 //! What is answered where parts of the files are not read.
 
 ghost use Rattle.std.specs.Prelude.{◌≡◌};
-ghost use Rattle.unchecked_commands.specs.OnlyGraph.{answer_unread};
+ghost use Rattle.unchecked_commands.specs.OnlyAnswer.{answer_unread};
 
 use gix_commitgraph::opening::OpenError;
 use graph_commands::refusal::Refusal;

@@ -49,8 +49,8 @@ pub fn run_walk_unchecked<T: Folder, W: Write>(
 ) -> Result<u8, WriteFailed>
     ensures written { IfOk result (WritesAnswer walk_text walk_status
         (MayWalkUnchecked first.now second.now (folder.new ≡ folder.old)
-        (MayOpen (T.tree folder.old) path.now (T.failure_count folder.old)
-        (T.failure_count folder.new)) (T.failure_count folder.old) (T.failure_count folder.new))
+        (MayOpen (T.tree folder.old) path.now)
+        (T.failure_count folder.old) (T.failure_count folder.new))
         (W.contents writer.old) (W.contents writer.new)) }
     ensures tree { T.tree folder.new ≡ T.tree folder.old }
 {
@@ -72,8 +72,8 @@ fn found_by_parts<T: Folder>(
 ) -> Result<Option<Found>, Refusal>
     ensures may { MayAnswerByParts IsWalkOfIds IsWalkThere first.now second.now
         (folder.new ≡ folder.old)
-        (MayOpen (T.tree folder.old) path.now (T.failure_count folder.old)
-        (T.failure_count folder.new)) (T.failure_count folder.old) (T.failure_count folder.new)
+        (MayOpen (T.tree folder.old) path.now)
+        (T.failure_count folder.old) (T.failure_count folder.new)
         (listed_by_parts result) }
     ensures tree { T.tree folder.new ≡ T.tree folder.old }
 {

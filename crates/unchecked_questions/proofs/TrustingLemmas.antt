@@ -10,7 +10,6 @@ use Rattle.std.proofs.lemmas.List.Concat.{flat_map-append}
 use Rattle.graph_folder.specs.declared.folder.ReadError.{ReadError}
 use Rattle.graph_folder.specs.declared.folder.ReadError.TheVariants.{NotOpened}
 use Rattle.graph_format.specs.Layer.{Layer}
-use Rattle.graph_layer.specs.declared.opening.error.OpenError.{OpenError}
 use Rattle.graph_commands.specs.Buffer.{with_buffer}
 use Rattle.graph_commands.specs.Text.{newline}
 use Rattle.graph_commands.specs.WrittenAnswer.{WritesAnswer, WritesRefusal}
@@ -105,7 +104,7 @@ answered_line MayOpen before after read left old new kept takes adds =
 -- a line was answered that asks for the graph to be opened anew
 pub answered_anew : (MayOpen : Opener) (before after : ℕ) (line : List ℕ) (read left old new : Option (List ℕ))
     → HasRead read left (line ∷ []) → Asks line question.Reload
-    → AddsTold (MayTellCount (MayOpen before after) before after) old new → AreAnswered MayOpen before after read left old new
+    → AddsTold (MayTellCount MayOpen before after) old new → AreAnswered MayOpen before after read left old new
 answered_anew MayOpen before after line read left old new reads asks adds =
     let turn : Told = record { line = line; told = adds.0 } in
     answered_one MayOpen before after turn read left old new reads (inr (inr (inl (asks, adds.1)))) adds.2
@@ -165,8 +164,8 @@ finishes (Ok is) MayTell told buffer old middle new may none added written =
 finishes (Err error) MayTell told buffer old middle new may none added written = tt
 
 -- what is told of a right graph that was taken may be told for the question
-pub adds_taken : {T E : Type 0} (result : Result T E) (MayOpen : Result (List Layer) OpenError → Type 0) (before after : ℕ)
-    (asked : Question) (layers : List Layer) (old new : Option (List ℕ)) → MayTake MayOpen (Ok layers)
+pub adds_taken : {T E : Type 0} (result : Result T E) (MayOpen : Opener) (before after : ℕ) (asked : Question)
+    (layers : List Layer) (old new : Option (List ℕ)) → MayTake (MayOpen before after) (Ok layers)
     → OnOk result (AddsTold (TellsOfTaken (Ok layers) asked) old new)
     → OnOk result (AddsTold (MayTellAsked MayOpen before after asked) old new)
 adds_taken (Ok value) MayOpen before after asked layers old new taken adds = (adds.0, inr (Ok layers, taken, adds.1), adds.2)
@@ -181,7 +180,7 @@ adds_line (Err error) MayTell told old new may written = tt
 -- the text of a session was written, and why it ended, if that was
 pub asks_trusted : {E : Type 0} (result : Result ℕ E) (MayOpen : Opener) (before opened after : ℕ)
     (input unread a b c d : Option (List ℕ)) (commits : ℕ) (turns : List Told) (failed : Option ReadError)
-    → MayCount (MayOpen before opened) before opened (Ok commits) → AreTold MayOpen opened after turns
+    → MayCount MayOpen before opened (Ok commits) → AreTold MayOpen opened after turns
     → AreLinesOf input unread (map (λ (turn : Told). turn.line) turns) failed
     → Appends a b (opened_line (Ok commits) ++ newline) → Appends b c (flat_map told_text turns)
     → IfOk result (λ (status : ℕ). Appends c d (end_text failed) × (status ≡ end_status failed))
@@ -199,7 +198,7 @@ asks_trusted (Err error) MayOpen before opened after input unread a b c d commit
 
 -- the line of a refusal was written, if it was
 pub refuses_trusted : {E : Type 0} (result : Result ℕ E) (MayOpen : Opener) (before after : ℕ)
-    (input old new : Option (List ℕ)) (refusal : Refusal) → MayCount (MayOpen before after) before after (Err refusal)
+    (input old new : Option (List ℕ)) (refusal : Refusal) → MayCount MayOpen before after (Err refusal)
     → IfOk result (WritesRefusal refusal old new)
     → IfOk result (WritesAnswer trusted_text trusted_status (MayAskTrusted MayOpen before after input input) old new)
 refuses_trusted (Ok status) MayOpen before after input old new refusal count written =

@@ -4,7 +4,6 @@ use Rattle.std.specs.List.{flat_map}
 use Rattle.graph_folder.specs.declared.folder.ReadError.{ReadError}
 use Rattle.graph_format.specs.Layer.{Layer}
 use Rattle.graph_layer.specs.OpenAnswer.{result_map}
-use Rattle.graph_layer.specs.declared.opening.error.OpenError.{OpenError}
 use Rattle.gix_commitgraph.specs.Graph.{total}
 use Rattle.gix_commitgraph.specs.GraphLookup.{FoundIn}
 use Rattle.graph_commands.specs.Find.{MayBeFound, find_text}
@@ -14,7 +13,7 @@ use Rattle.graph_commands.specs.declared.refusal.Refusal.{Refusal}
 use Rattle.graph_commands.specs.declared.refusal.Refusal.TheVariants.{Walk as no_memory}
 use Rattle.history_commands.specs.IsAncestor.{IsTold, is_ancestor_text}
 use Rattle.history_commands.specs.Walk.{IsWalkOfIds, walk_text}
-use Rattle.unchecked_commands.specs.OnlyGraph.{IsReadByParts}
+use Rattle.unchecked_commands.specs.OnlyAnswer.{IsReadByParts}
 use Rattle.unchecked_commands.specs.UncheckedAncestor.{IsYesSo}
 use Rattle.unchecked_commands.specs.UncheckedAnswer.{IsFoundUnchecked}
 use Rattle.unchecked_commands.specs.UncheckedBases.{IsToldByParts, told_bases_text}
@@ -38,14 +37,14 @@ parents_reply (Ok parents) = parents_line parents
 parents_reply (Err refusal) = refusal_text refusal ⧺ newline
 
 -- the text of what may be read by parts is told
-abbrev pub TellsByParts : {A : Type 0} → (Result A Refusal → List ℕ) → (Result (List Layer) OpenError → Type 0) → ℕ → ℕ
+abbrev pub TellsByParts : {A : Type 0} → (Result A Refusal → List ℕ) → Opener → ℕ → ℕ
     → (List Layer → A → Type 0) → List ℕ → Type 0
 TellsByParts {A = A} text_of MayOpen before after IsSo told =
     (answer : Result A Refusal) × IsReadByParts MayOpen before after IsSo answer × (told ≡ text_of answer)
 
 -- what may be told for a question of what is read by parts, as its command tells it with `--unchecked`, while the count of
 -- failed reads goes from `before` to `after`
-abbrev pub MayTellByParts : (Result (List Layer) OpenError → Type 0) → ℕ → ℕ → Question → List ℕ → Type 0
+abbrev pub MayTellByParts : Opener → ℕ → ℕ → Question → List ℕ → Type 0
 MayTellByParts MayOpen before after (Find id) told =
     TellsByParts find_text MayOpen before after (λ layers. MayBeFound layers id) told
 MayTellByParts MayOpen before after (IsAncestor first second) told =
@@ -64,23 +63,23 @@ TellsOfTaken (Ok layers) asked told = TellsOfIds layers (question_name asked) (q
 TellsOfTaken (Err refusal) asked told = told ≡ opened_line (Err refusal)
 
 -- what may be told for a question: what is read by parts, or what a check finds
-abbrev pub MayTellAsked : (Result (List Layer) OpenError → Type 0) → ℕ → ℕ → Question → List ℕ → Type 0
+abbrev pub MayTellAsked : Opener → ℕ → ℕ → Question → List ℕ → Type 0
 MayTellAsked MayOpen before after asked told =
     MayTellByParts MayOpen before after asked told
-    ⊎ ((taken : Result (List Layer) Refusal) × MayTake MayOpen taken × TellsOfTaken taken asked told)
+    ⊎ ((taken : Result (List Layer) Refusal) × MayTake (MayOpen before after) taken × TellsOfTaken taken asked told)
 
 -- so many commits have some layers
 abbrev pub IsCountOf : List Layer → ℕ → Type 0
 IsCountOf layers count = count ≡ total layers
 
 -- how many commits a graph may have, by parts or after a check, or why it may be refused
-abbrev pub MayCount : (Result (List Layer) OpenError → Type 0) → ℕ → ℕ → Result ℕ Refusal → Type 0
+abbrev pub MayCount : Opener → ℕ → ℕ → Result ℕ Refusal → Type 0
 MayCount MayOpen before after count =
     IsReadByParts MayOpen before after IsCountOf count
-    ⊎ ((taken : Result (List Layer) Refusal) × MayTake MayOpen taken × (count ≡ result_map total taken))
+    ⊎ ((taken : Result (List Layer) Refusal) × MayTake (MayOpen before after) taken × (count ≡ result_map total taken))
 
 -- that is told
-abbrev pub MayTellCount : (Result (List Layer) OpenError → Type 0) → ℕ → ℕ → List ℕ → Type 0
+abbrev pub MayTellCount : Opener → ℕ → ℕ → List ℕ → Type 0
 MayTellCount MayOpen before after told =
     (count : Result ℕ Refusal) × MayCount MayOpen before after count × (told ≡ opened_line count)
 
@@ -90,8 +89,8 @@ abbrev pub MayTellTrusted : Opener → ℕ → ℕ → List ℕ → List ℕ →
 MayTellTrusted MayOpen before after line told =
     (AsksNothing line × (told ≡ refused_line) × (after ≡ before))
     ⊎ (AsksForBases line × (told ≡ opened_line (Err no_memory)) × (after ≡ before))
-    ⊎ (Asks line Reload × MayTellCount (MayOpen before after) before after told)
-    ⊎ ((asked : Question) × Asks line asked × MayTellAsked (MayOpen before after) before after asked told)
+    ⊎ (Asks line Reload × MayTellCount MayOpen before after told)
+    ⊎ ((asked : Question) × Asks line asked × MayTellAsked MayOpen before after asked told)
 
 -- lines are told one after another, while the count of failed reads goes from one number to another
 abbrev pub AreTold : Opener → ℕ → ℕ → List Told → Type 0
@@ -109,11 +108,11 @@ pub record TrustedSession : Type 0 where
 -- unread; where the graph is refused, nothing is read
 abbrev pub MayAskTrusted : Opener → ℕ → ℕ → Option (List ℕ) → Option (List ℕ) → Result TrustedSession Refusal → Type 0
 MayAskTrusted MayOpen old new input unread (Ok session) =
-    (opened : ℕ) × MayCount (MayOpen old opened) old opened (Ok session.commits)
+    (opened : ℕ) × MayCount MayOpen old opened (Ok session.commits)
     × AreTold MayOpen opened new session.turns
     × AreLinesOf input unread (map (λ turn. turn.line) session.turns) session.failed
 MayAskTrusted MayOpen old new input unread (Err refusal) =
-    MayCount (MayOpen old new) old new (Err refusal) × (unread ≡ input)
+    MayCount MayOpen old new (Err refusal) × (unread ≡ input)
 
 -- the line of the graph and an empty one, the texts of the lines, and why they ended; or the line of a refusal
 abbrev pub trusted_text : Result TrustedSession Refusal → List ℕ

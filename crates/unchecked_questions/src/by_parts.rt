@@ -1,12 +1,13 @@
 //! Answers to questions over a graph that is trusted, which are read by parts, and their lines.
 
-ghost use Rattle.std.specs.Prelude.{◌≡◌, ◌≢◌, ◌⊎◌, ℕ, List, IfOk, OnOk, Ok, Err, Some};
+ghost use Rattle.std.specs.Prelude.{◌≡◌, ◌≢◌, ℕ, List, IfOk, OnOk, Ok, Some};
 ghost use Rattle.std.specs.Prelude.{option_map};
 ghost use Rattle.std.specs.Io.KnownBytes.{Appends};
 ghost use Rattle.std.specs.List.{flat_map, zip};
 ghost use Rattle.graph_commands.specs.Buffer.{with_buffer};
 ghost use Rattle.graph_commands.specs.OpenerAnswer.{MayOpen};
 ghost use Rattle.graph_unchecked.specs.Trusted.{IsTrustedAt};
+ghost use Rattle.graph_unchecked.specs.Unread.{failures_after_reads};
 ghost use Rattle.history_commands.specs.IsAncestor.{is_ancestor_text};
 ghost use Rattle.history_commands.specs.Walk.{id_line, walk_text};
 ghost use Rattle.unchecked_commands.specs.UncheckedAncestor.{answer_of};
@@ -58,12 +59,11 @@ pub(crate) fn ask_by_parts<T: Folder>(
     ensures graph { (path : List ℕ) → IsTrustedAt (T.tree folder.old) path graph.old
         → IsTrustedAt (T.tree folder.old) path graph.new }
     ensures told { (path : List ℕ) → IsTrustedAt (T.tree folder.old) path graph.old
-        → IfOk result (λ reply. MayTellByParts (MayOpen (T.tree folder.old) path
-        (T.failure_count folder.old) (T.failure_count folder.new))
+        → IfOk result (λ reply. MayTellByParts (MayOpen (T.tree folder.old) path)
         (T.failure_count folder.old) (T.failure_count folder.new)
         question.now (reply_text reply)) }
-    ensures failures { (result ≡ Err Unread.Device)
-        ⊎ (T.failure_count folder.new ≡ T.failure_count folder.old) }
+    ensures failures { T.failure_count folder.new
+        ≡ failures_after_reads result (T.failure_count folder.old) }
     ensures tree { T.tree folder.new ≡ T.tree folder.old }
 {
     match question {

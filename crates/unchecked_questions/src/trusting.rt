@@ -126,8 +126,8 @@ pub fn run_ask_unchecked<R: Read, T: Folder, W: Write>(
 
 /// Opens the graph at the path by parts; or where they do not suffice whole, to check it.
 fn open_trusted<T: Folder>(alloc: Global, folder: &mut T, path: &str) -> Result<Opened, Refusal>
-    ensures count { MayCount (MayOpen (T.tree folder.old) path.now (T.failure_count folder.old)
-        (T.failure_count folder.new)) (T.failure_count folder.old) (T.failure_count folder.new)
+    ensures count { MayCount (MayOpen (T.tree folder.old) path.now)
+        (T.failure_count folder.old) (T.failure_count folder.new)
         (opened_count result) }
     ensures kept { IfOk result (λ opened. IsKeptAt (T.tree folder.old) path.now opened.kept) }
     ensures tree { T.tree folder.new ≡ T.tree folder.old }
@@ -345,8 +345,7 @@ fn reload<T: Folder, W: Write>(
     writer: &mut W,
 ) -> Result<(), WriteFailed>
     requires { IsKeptAt (T.tree folder.old) path.now kept.old }
-    ensures told { OnOk result (AddsTold (MayTellCount (MayOpen (T.tree folder.old) path.now
-        (T.failure_count folder.old) (T.failure_count folder.new))
+    ensures told { OnOk result (AddsTold (MayTellCount (MayOpen (T.tree folder.old) path.now)
         (T.failure_count folder.old) (T.failure_count folder.new))
         (W.contents writer.old) (W.contents writer.new)) }
     ensures kept { IsKeptAt (T.tree folder.old) path.now kept.new }
@@ -376,8 +375,7 @@ fn answer_question<T: Folder, W: Write>(
     requires ids { HasAllIds question.now }
     requires buffer { buffer.old ≡ [] }
     requires kept { IsKeptAt (T.tree folder.old) path.now kept.old }
-    ensures told { OnOk result (AddsTold (MayTellAsked (MayOpen (T.tree folder.old) path.now
-        (T.failure_count folder.old) (T.failure_count folder.new))
+    ensures told { OnOk result (AddsTold (MayTellAsked (MayOpen (T.tree folder.old) path.now)
         (T.failure_count folder.old) (T.failure_count folder.new) question.now)
         (W.contents writer.old) (W.contents writer.new)) }
     ensures buffer { OnOk result (buffer.new ≡ []) }
@@ -417,8 +415,7 @@ fn answer_checked<T: Folder, W: Write>(
     requires ids { HasAllIds question.now }
     requires buffer { buffer.old ≡ [] }
     requires kept { IsKeptAt (T.tree folder.old) path.now kept.old }
-    ensures told { OnOk result (AddsTold (MayTellAsked (MayOpen (T.tree folder.old) path.now
-        (T.failure_count folder.old) (T.failure_count folder.new))
+    ensures told { OnOk result (AddsTold (MayTellAsked (MayOpen (T.tree folder.old) path.now)
         (T.failure_count folder.old) (T.failure_count folder.new) question.now)
         (W.contents writer.old) (W.contents writer.new)) }
     ensures buffer { OnOk result (buffer.new ≡ []) }

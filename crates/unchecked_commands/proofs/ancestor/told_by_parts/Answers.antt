@@ -26,11 +26,11 @@ returns-clause-may g c =
     let other = c.in_ok-second.second in
     rw c.answer_by_parts.ensures
     (answered (MayAnswerByParts IsTold IsYesSo c.args.first.now c.args.second.now
-    (c.is_ancestor-found.new.folder ≡ c.args.folder.now) (MayOpen tree c.args.path.now before after) before after)
+    (c.is_ancestor-found.new.folder ≡ c.args.folder.now) (MayOpen tree c.args.path.now) before after)
     before after c.is_ancestor-found.result c.is_ancestor-found.ensures.failures
     (λ found is kept.
     let so = rw (is, c.as_oid.ensures, c.as_oid-2.ensures) at c.is_ancestor-found.ensures.answer in
-    inr (one, other, first, second, (kept, told-of_only tree c.args.path.now before after one other found kept so)))
-    (inr (one, other, first, second, tt))
+    inr (one, other, first, second, (kept, told-of_only tree c.args.path.now one other found so)))
+    (λ rose. inr (one, other, first, second, rose))
     (λ kept. inr (one, other, first, second, kept))
     (λ kept. (one, other, first, second, kept)))

@@ -2,9 +2,10 @@
 use Rattle.std.proofs.Common.{◌≡◌, ◌∷◌, inl, inr, map, refl, string_bytes}
 use Rattle.std.proofs.lemmas.Result.{err_from_is_err_and}
 use Rattle.graph_commands.specs.OpenerAnswer.{MayOpen}
+use Rattle.graph_unchecked.proofs.FailureLemmas.{kept-unless}
 use Rattle.history_commands.proofs.BasesLemmas.{refused_reading}
 use Rattle.unchecked_commands.specs.UncheckedBases.{MayCompareByParts, told_among_by_parts}
-use Rattle.unchecked_commands.proofs.AnswerLemmas.{kept-unless, unread-answered}
+use Rattle.unchecked_commands.proofs.AnswerLemmas.{unread-answered}
 use Rattle.unchecked_commands.proofs.BasesLemmas.{bases-of_only}
 use Rattle.unchecked_commands.proofs.bases.compare_by_parts.Goals as goal
 
@@ -31,7 +32,7 @@ returns-in-Ok-clause-may g c =
       (first, c.in_ok-others.ensures.spelled),
       (
         kept,
-        bases-of_only (g.T.Folder.tree c.args.folder.now) c.args.path.now before after ids c.in-Ok.found kept so,
+        bases-of_only (g.T.Folder.tree c.args.folder.now) c.args.path.now ids c.in-Ok.found so,
       ),
     )
 
@@ -43,7 +44,8 @@ returns-clause-may g c =
     let ids = c.in_ok-first.first ∷ c.in_ok-others.others.items in
     rw c.answer_unread.ensures
     (unread-answered (λ found. MayCompareByParts (c.args.first.now ∷ map string_bytes c.args.others.now)
-    (c.compare.new.folder ≡ c.args.folder.now) (MayOpen (g.T.Folder.tree c.args.folder.now) c.args.path.now before after)
+    (c.compare.new.folder ≡ c.args.folder.now) (MayOpen (g.T.Folder.tree c.args.folder.now) c.args.path.now)
     before after (told_among_by_parts found)) before after c.in-Err.why c.compare.result c.in-Err.is c.compare.ensures.failures
-    (inr (ids, (first, c.in_ok-others.ensures.spelled), tt)) (λ kept. inr (ids, (first, c.in_ok-others.ensures.spelled), kept))
+    (λ rose. inr (ids, (first, c.in_ok-others.ensures.spelled), rose))
+    (λ kept. inr (ids, (first, c.in_ok-others.ensures.spelled), kept))
     (λ kept. (ids, (first, c.in_ok-others.ensures.spelled), kept)))

@@ -14,7 +14,7 @@ returns-in-Ok-Some-clause-written g c =
     let before = g.T.Folder.failure_count c.args.folder.now in
     let after = g.T.Folder.failure_count c.compare_by_parts.new.folder in
     let alone = c.compare_by_parts.new.folder ≡ c.args.folder.now in
-    let opens = MayOpen (g.T.Folder.tree c.args.folder.now) c.args.path.now before after in
+    let opens = MayOpen (g.T.Folder.tree c.args.folder.now) c.args.path.now in
     let may = rw c.in-Ok-Some.field-0-is at c.in-Ok-Some.ensures.may in
     tells (MayCompareUnchecked texts alone opens before after) MayHaveLines (told_among c.in-Ok-Some.found) may
     (bases_want texts alone opens before after c.in-Ok-Some.found may)

@@ -13,7 +13,7 @@ returns-in-Ok-Some-clause-written g c =
     let before = g.T.Folder.failure_count c.args.folder.now in
     let after = g.T.Folder.failure_count c.found_by_parts.new.folder in
     let alone = c.found_by_parts.new.folder ≡ c.args.folder.now in
-    let opens = MayOpen (g.T.Folder.tree c.args.folder.now) c.args.path.now before after in
+    let opens = MayOpen (g.T.Folder.tree c.args.folder.now) c.args.path.now in
     let may = rw c.in-Ok-Some.field-0-is at c.in-Ok-Some.ensures.may in
     tells (MayWalkUnchecked c.args.first.now c.args.second.now alone opens before after) MayBeWalk
     (listed_walk c.in-Ok-Some.found) may

@@ -1,5 +1,5 @@
 -- What is found by parts may be told.
-use Rattle.unchecked_commands.proofs.AnswerLemmas.{kept-unless}
+use Rattle.graph_unchecked.proofs.FailureLemmas.{kept-unless}
 use Rattle.unchecked_questions.proofs.PartReplyLemmas.{tells-ancestor, tells-compared, tells-found, tells-parents, tells-walk}
 use Rattle.unchecked_questions.proofs.by_parts.ask_by_parts.Goals as goal
 

@@ -4,9 +4,10 @@ use Rattle.std.specs.Prelude.{Err}
 use Rattle.graph_folder.specs.Tree.{Tree}
 use Rattle.graph_layer.specs.declared.opening.error.OpenError.TheVariants.{Device}
 use Rattle.graph_commands.specs.declared.refusal.Refusal.TheVariants.{Open, Walk}
+use Rattle.graph_commands.specs.OpenerAnswer.{MayOpen}
 use Rattle.graph_unchecked.specs.Trusted.{IsTrustedAt}
-use Rattle.question_answers.specs.Taken.{opened_line}
-use Rattle.unchecked_commands.proofs.AnswerLemmas.{kept-unless}
+use Rattle.question_answers.specs.Taken.{Opener, opened_line}
+use Rattle.graph_unchecked.proofs.FailureLemmas.{kept-unless, risen-if}
 use Rattle.unchecked_questions.specs.PartReplies.{reply_text}
 use Rattle.unchecked_questions.proofs.PartReplyLemmas.{tells-failed, tells-wanting}
 use Rattle.unchecked_questions.proofs.TrustingLemmas.{adds_line, adds_taken, adds_told}
@@ -32,8 +33,13 @@ returns-in_ok-finish-in-Ok-clause-kept g c =
 
 pub returns-in-Err-Device-clause-told : goal.returns-in-Err-Device-clause-told
 returns-in-Err-Device-clause-told g c =
+    let before = g.T.Folder.failure_count c.args.folder.now in
+    let after = g.T.Folder.failure_count c.ask_by_parts.new.folder in
+    let opens : Opener = MayOpen (g.T.Folder.tree c.args.folder.now) c.args.path.now in
+    let device = rw c.in-Err-Device.field-0-is at c.in-Err-Device.is in
+    let rose = risen-if c.ask_by_parts.result before after device c.ask_by_parts.ensures.failures in
     adds_line c.write_refused.result _ (opened_line (Err (Open Device))) _ _
-    (inl (tells-failed _ _ _ c.args.question.now c.requires.asks)) c.write_refused.ensures
+    (inl (tells-failed opens before after c.args.question.now rose c.requires.asks)) c.write_refused.ensures
 
 pub returns-in-Err-Device-clause-kept : goal.returns-in-Err-Device-clause-kept
 returns-in-Err-Device-clause-kept g c =
@@ -46,8 +52,9 @@ returns-in-Err-OutOfMemory-clause-told g c =
     let kept =
     kept-unless c.ask_by_parts.result before after (λ device. let is = c.in-Err-OutOfMemory.is in cc)
     c.ask_by_parts.ensures.failures in
+    let opens : Opener = MayOpen (g.T.Folder.tree c.args.folder.now) c.args.path.now in
     adds_line c.write_refused-in-Err-OutOfMemory.result _ (opened_line (Err Walk)) _ _
-    (inl (tells-wanting _ before after c.args.question.now kept c.requires.asks))
+    (inl (tells-wanting opens before after c.args.question.now kept c.requires.asks))
     c.write_refused-in-Err-OutOfMemory.ensures
 
 pub returns-in-Err-OutOfMemory-clause-kept : goal.returns-in-Err-OutOfMemory-clause-kept
@@ -76,5 +83,6 @@ pub returns-in-Whole-clause-told : goal.returns-in-Whole-clause-told
 returns-in-Whole-clause-told g c =
     let failures = g.T.Folder.failure_count c.args.folder.now in
     let stays = rw c.in-Whole.is at c.requires.kept in
-    adds_taken c.answer_whole.result _ failures failures c.args.question.now _ _ _ (stays.0 failures, stays.1)
+    let opens : Opener = MayOpen (g.T.Folder.tree c.args.folder.now) c.args.path.now in
+    adds_taken c.answer_whole.result opens failures failures c.args.question.now _ _ _ (stays.0 failures, stays.1)
     c.answer_whole.ensures.told

@@ -1,8 +1,8 @@
 -- The count is read by parts, or it is that of a graph that was checked.
 use Rattle.std.proofs.Common.{inl, inr, refl, rules}
 use Rattle.std.specs.Prelude.{Ok, Err}
-use Rattle.unchecked_commands.proofs.AnswerLemmas.{kept-unless}
-use Rattle.unchecked_commands.proofs.OnlyGraphLemmas.{so_of_only}
+use Rattle.graph_unchecked.proofs.FailureLemmas.{kept-unless}
+use Rattle.unchecked_commands.proofs.OnlyAnswerLemmas.{so_of_only}
 use Rattle.unchecked_questions.specs.Trusting.{IsCountOf}
 use Rattle.unchecked_questions.proofs.trusting.open_trusted.Goals as goal
 
@@ -14,7 +14,8 @@ returns-in-Ok-clause-count g c =
     let after = g.T.Folder.failure_count c.open.new.folder in
     let kept = kept-unless c.open.result before after (λ device. let is = c.in-Ok.is in cc) c.open.ensures.failures in
     let so = c.num_commits-commits.ensures known path c.in-Ok.ensures.graph in
-    inl (kept, λ layers one. so_of_only known path before after IsCountOf c.num_commits-commits.result kept so layers one)
+    let count = c.num_commits-commits.result in
+    inl (kept, so_of_only known path IsCountOf count (λ layers. IsCountOf layers count) (λ layers is. is) so)
 
 pub returns-in-Ok-open_whole-clause-count : goal.returns-in-Ok-open_whole-clause-count
 returns-in-Ok-open_whole-clause-count g c =

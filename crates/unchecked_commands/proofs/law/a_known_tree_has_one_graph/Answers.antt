@@ -1,5 +1,0 @@
-use Rattle.unchecked_commands.proofs.OnlyGraphLemmas.{known_only}
-use Rattle.unchecked_commands.proofs.law.a_known_tree_has_one_graph.Goals as goal
-
-pub returns : goal.returns
-returns c = known_only
