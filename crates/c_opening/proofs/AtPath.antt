@@ -6,7 +6,8 @@ use Rattle.graph_layer.specs.declared.opening.error.OpenError.{OpenError}
 use Rattle.graph_layer.specs.declared.opening.error.OpenError.TheVariants as opening
 use Rattle.gix_commitgraph.proofs.opening.OpenErrorLemmas.{folder_error-file}
 use Rattle.gix_commitgraph.specs.Graph.{IsGraph}
-use Rattle.gix_commitgraph.specs.OpenAlways.{IsFileError, IsFolderError, IsFromChain, IsFromFile, IsFromInfo, IsFromPath, IsPathError}
+use Rattle.gix_commitgraph.specs.OpenAlways.{IsFileError, IsFolderError, IsPathError}
+use Rattle.gix_commitgraph.specs.OpenAlways.{IsFromChain, IsFromFile, IsFromInfo, IsFromPath}
 use Rattle.gix_commitgraph.specs.Paths.{info_chain, info_file}
 use Rattle.c_opening.specs.AtPath.{IsGraphAt, IsUnopenedAt}
 use Rattle.c_opening.specs.KnownOpening.{IfRefused}
@@ -87,7 +88,8 @@ refusal_at : (what : ℕ) (why : Unopened) → (what ≡ 1 → IfRefused why IsF
     → ((what ≡ 2) ⊎ (what ≡ 3) → IfRefused why IsFolderError) → IfRefused why IsPathError → IfRefused why OutOfMemoryStandsAlone
     → IsUnopenedAt what why
 refusal_at what (unopened.Unread path) file folder any memory = tt
-refusal_at what (unopened.Refused error asked) file folder any memory = (record { file = file; folder = folder; any = any }, memory)
+refusal_at what (unopened.Refused error asked) file folder any memory =
+    (record { file = file; folder = folder; any = any }, memory)
 refusal_at what unopened.NoMemory file folder any memory = tt
 
 pub unopened_at : (what : ℕ) (answer : Result (List Layer) Unopened)

@@ -29,7 +29,8 @@ left_chain known file chain (Ok layers) final is = absurd (true≢false final)
 left_chain known file chain (Err (unopened.Unread path)) final is =
     ap (λ (first : KnownAnswer). or_chain known first chain) is
     ∙ ap (λ (b : Bool). cond b (Err (UnreadPath (string_bytes path))) chain) final
-left_chain known file chain (Err (unopened.Refused error asked)) final is = ap (λ (first : KnownAnswer). or_chain known first chain) is
+left_chain known file chain (Err (unopened.Refused error asked)) final is =
+    ap (λ (first : KnownAnswer). or_chain known first chain) is
 left_chain known file chain (Err unopened.NoMemory) final is = absurd (true≢false final)
 
 pub chain_answers : (known : List CgKnown) (file chain : KnownAnswer) (first answer : Result (List Layer) Unopened)
@@ -43,7 +44,8 @@ taken : (line : List ℕ) (lines : List (List ℕ)) → is_utf8 line ≡ true
 taken line lines text = take_while-cons is_utf8 line lines ∙ ap (λ (b : Bool). cond b (line ∷ take_while is_utf8 lines) []) text
 
 not_taken : (line : List ℕ) (lines : List (List ℕ)) → is_utf8 line ≡ false → take_while is_utf8 (line ∷ lines) ≡ []
-not_taken line lines text = take_while-cons is_utf8 line lines ∙ ap (λ (b : Bool). cond b (line ∷ take_while is_utf8 lines) []) text
+not_taken line lines text =
+    take_while-cons is_utf8 line lines ∙ ap (λ (b : Bool). cond b (line ∷ take_while is_utf8 lines) []) text
 
 -- the first layer that was not read, of those that lines name
 module _ (tree : Tree) (folder : List ℕ) where

@@ -6,7 +6,7 @@ use Rattle.std.specs.FinMap.{get, get-empty, get-insert, get-remove}
 use Rattle.std.specs.Option.{option_map_or}
 use Rattle.std.specs.Ordering.{nat_cmp, eq_by_cmp}
 use Rattle.graph_folder.specs.Tree.{Tree, TreeEntry, RegularFile, file_at, file_bytes, is_directory, is_folder}
-use Rattle.c_opening.specs.Known.{known_at, known_entry, known_tree, with_entry}
+use Rattle.c_opening.specs.KnownPaths.{known_at, known_entry, known_tree, with_entry}
 use Rattle.c_opening.specs.declared.known.CgKnown.{CgKnown}
 
 -- the order of paths ties equal ones
@@ -62,6 +62,7 @@ no_folder (Some k) = no_folder_by_kind (k.kind == 1) k.bytes.now
 
 pub is_folder_known : (known : List CgKnown) (path : List ℕ) → is_folder (known_tree known) path ≡ false
 is_folder_known known path =
-    ap (λ (o : Option TreeEntry). option_map_or is_directory o false) (get-known_tree known path) ∙ no_folder (known_at known path)
+    ap (λ (o : Option TreeEntry). option_map_or is_directory o false) (get-known_tree known path)
+    ∙ no_folder (known_at known path)
 
 pub ruleset known_laws = (file_at_known, is_folder_known)

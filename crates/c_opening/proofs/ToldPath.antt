@@ -7,7 +7,7 @@ use Rattle.c_opening.specs.AtPath.{IsErrorAt, IsUnknown, IsUnopenedAt, RefusesPa
 use Rattle.c_opening.specs.AtPath.{told_unread}
 use Rattle.c_opening.specs.Answers.{written}
 use Rattle.c_opening.specs.Codes.{out_of_memory, path_wanted}
-use Rattle.c_opening.specs.Known.{known_at, unread}
+use Rattle.c_opening.specs.KnownPaths.{known_at, unread}
 use Rattle.c_opening.specs.KnownOpening.{AnswersAs, KnownAnswer}
 use Rattle.c_opening.specs.declared.at_path.Unopened.{Unopened}
 use Rattle.c_opening.specs.declared.at_path.Unopened.TheVariants as unopened

@@ -10,7 +10,7 @@ use Rattle.gix_commitgraph.specs.OpenAlways.{IsFileError, IsFolderError, IsFromC
 use Rattle.gix_commitgraph.specs.OpenAlways.{IsPathError}
 use Rattle.c_opening.specs.Answers.{written}
 use Rattle.c_opening.specs.Codes.{open_code, path_wanted}
-use Rattle.c_opening.specs.Known.{known_at, unread}
+use Rattle.c_opening.specs.KnownPaths.{known_at, unread}
 use Rattle.c_opening.specs.KnownOpening.{ByError, IfRefused, KnownAnswer, UnreadPath}
 use Rattle.c_opening.specs.declared.at_path.Unopened.{Unopened}
 use Rattle.c_opening.specs.declared.at_path.Unopened.TheVariants as unopened
@@ -80,7 +80,8 @@ pub record WantsPath (known : List CgKnown) (answer : KnownAnswer) (told : CgPat
 -- what is told of an answer: a path is written as far as there is room
 abbrev pub TellsOpening : List CgKnown → KnownAnswer → CgPathError → List ℕ → List ℕ → Type 0
 TellsOpening known (Ok layers) told old new = told ≡ only_code 0
-TellsOpening known (Err (UnreadPath path)) told old new = (told ≡ told_unread (known_at known path) path) × (new ≡ written path old)
+TellsOpening known (Err (UnreadPath path)) told old new =
+    (told ≡ told_unread (known_at known path) path) × (new ≡ written path old)
 TellsOpening known (Err (ByError error file)) told old new = (told ≡ told_open error file) × (new ≡ written file old)
 
 -- An error of opening is told, and the path of a file is written as far as there is room.

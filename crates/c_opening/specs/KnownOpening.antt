@@ -10,7 +10,7 @@ use Rattle.graph_layer.specs.declared.opening.error.OpenError.{OpenError}
 use Rattle.graph_layer.specs.declared.opening.error.OpenError.TheVariants as opening
 use Rattle.gix_commitgraph.specs.Opening.{chain_opened, file_opened}
 use Rattle.gix_commitgraph.specs.Paths.{chain_path, info_chain, info_file, layer_path}
-use Rattle.c_opening.specs.Known.{is_known_file, known_at, known_tree}
+use Rattle.c_opening.specs.KnownPaths.{is_known_file, known_at, known_tree}
 use Rattle.c_opening.specs.declared.at_path.Unopened.{Unopened}
 use Rattle.c_opening.specs.declared.at_path.Unopened.TheVariants as unopened
 use Rattle.c_opening.specs.declared.known.CgKnown.{CgKnown}
@@ -74,14 +74,16 @@ info_answer known folder =
 -- of a folder, where this is known of its chain file: it is a chain folder if that is a file, and else an info folder
 unfoldable pub folder_answer : List CgKnown → List ℕ → Option CgKnown → KnownAnswer
 folder_answer known path None = Err (UnreadPath (chain_path path))
-folder_answer known path (Some chain) = if is_known_file chain then chain_answer (known_tree known) path else info_answer known path
+folder_answer known path (Some chain) =
+    if is_known_file chain then chain_answer (known_tree known) path else info_answer known path
 
 -- of a path of which this is known
 unfoldable pub path_answer : List CgKnown → List ℕ → Option CgKnown → KnownAnswer
 path_answer known path None = Err (UnreadPath path)
 path_answer known path (Some there) =
     if there.kind == 0 then Err (ByError opening.NothingFound [])
-    else (if there.kind == 2 then folder_answer known path (known_at known (chain_path path)) else file_answer (known_tree known) path)
+    else (if there.kind == 2 then folder_answer known path (known_at known (chain_path path))
+    else file_answer (known_tree known) path)
 
 -- of a file (1), a chain folder (2), an info folder (3), or what stands at the path
 unfoldable pub known_opened : ℕ → List CgKnown → List ℕ → KnownAnswer

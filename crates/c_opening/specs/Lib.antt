@@ -3,8 +3,8 @@ pub mod AtPath
 pub mod Codes
 pub mod Files
 pub mod Held
-pub mod Known
 pub mod KnownOpening
+pub mod KnownPaths
 pub mod State
 pub mod ToldLimit
 pub mod Verdict

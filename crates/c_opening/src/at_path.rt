@@ -10,7 +10,7 @@ ghost use Rattle.gix_commitgraph.specs.OpenAlways.{IsFileError, IsFolderError, I
 ghost use Rattle.gix_commitgraph.specs.OpenAlways.{IsFromFile, IsFromInfo, IsFromPath, IsPathError};
 ghost use Rattle.gix_commitgraph.specs.Paths.{chain_path};
 ghost use Rattle.c_opening.specs.AtPath.{IsGraphAt, IsUnopenedAt};
-ghost use Rattle.c_opening.specs.Known.{known_at, known_tree};
+ghost use Rattle.c_opening.specs.KnownPaths.{known_at, known_tree};
 ghost use Rattle.c_opening.specs.KnownOpening.{AnswersAs, IfRefused, chain_answer, file_answer};
 ghost use Rattle.c_opening.specs.KnownOpening.{first_unread, folder_answer, info_answer};
 ghost use Rattle.c_opening.specs.KnownOpening.{IsObstacle, is_final, known_opened, layer_files};

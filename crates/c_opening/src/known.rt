@@ -2,7 +2,7 @@
 
 ghost use Rattle.std.specs.Prelude.{◌≡◌, Some, option_copied};
 ghost use Rattle.graph_folder.specs.Tree.{file_at, is_file};
-ghost use Rattle.c_opening.specs.Known.{is_known_file, known_at, known_tree};
+ghost use Rattle.c_opening.specs.KnownPaths.{is_known_file, known_at, known_tree};
 
 use graph_folder::folder::{Folder, ReadError};
 use std::alloc::{AllocError, Global};

@@ -8,7 +8,7 @@ ghost use Rattle.c_opening.specs.AtPath.{IsGraphAt, IsUnknown, IsUnopenedAt, Ref
 ghost use Rattle.c_opening.specs.AtPath.{TellsOpening, TellsUnopened, WantsPath};
 ghost use Rattle.c_opening.specs.AtPath.{only_code, told_open, told_unread};
 ghost use Rattle.c_opening.specs.Codes.{out_of_memory, path_not_utf8, path_wanted};
-ghost use Rattle.c_opening.specs.Known.{unread};
+ghost use Rattle.c_opening.specs.KnownPaths.{unread};
 ghost use Rattle.c_opening.specs.KnownOpening.{AnswersAs, known_opened};
 
 use crate::at_path::{Unopened, open_as};

@@ -1,5 +1,6 @@
 use Rattle.std.proofs.Common.{◌≡◌, arith, rules}
-use Rattle.c_opening.proofs.AtPath.{file_error_of_folder, file_error_of_path, folder_error_of_path, from_of_chain, from_of_file, from_of_info}
+use Rattle.c_opening.proofs.AtPath.{file_error_of_folder, file_error_of_path, folder_error_of_path}
+use Rattle.c_opening.proofs.AtPath.{from_of_chain, from_of_file, from_of_info}
 use Rattle.c_opening.proofs.AtPath.{graph_at, unopened_at}
 use Rattle.c_opening.proofs.at_path.open_as.Goals as goal
 

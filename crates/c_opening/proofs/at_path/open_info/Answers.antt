@@ -1,6 +1,6 @@
 use Rattle.std.proofs.Common.{◌≡◌, true, false}
 use Rattle.gix_commitgraph.specs.Paths.{info_chain, info_file}
-use Rattle.c_opening.specs.Known.{known_tree}
+use Rattle.c_opening.specs.KnownPaths.{known_tree}
 use Rattle.c_opening.specs.KnownOpening.{chain_answer, file_answer, info_answer, is_final}
 use Rattle.c_opening.proofs.AtPath.{file_error_of_folder, info_of_chain, info_of_file}
 use Rattle.c_opening.proofs.KnownAnswers.{chain_answers, final_answers}

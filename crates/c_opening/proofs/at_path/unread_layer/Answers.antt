@@ -4,7 +4,7 @@ use Rattle.std.specs.Str.{is_utf8}
 use Rattle.graph_folder.specs.Tree.{is_file}
 use Rattle.gix_commitgraph.proofs.opening.Utf8Lemmas.{is_utf8-false}
 use Rattle.gix_commitgraph.specs.Paths.{layer_path}
-use Rattle.c_opening.specs.Known.{known_tree}
+use Rattle.c_opening.specs.KnownPaths.{known_tree}
 use Rattle.c_opening.proofs.KnownAnswers.{unread_of, unread_of-missing, unread_of-no_text, unread_of-read}
 use Rattle.c_opening.proofs.at_path.unread_layer.Goals as goal
 

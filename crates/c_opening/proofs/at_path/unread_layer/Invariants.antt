@@ -1,7 +1,7 @@
 use Rattle.std.proofs.Common.{◌≡◌, take_while}
 use Rattle.std.specs.Str.{is_utf8}
 use Rattle.std.specs.Str.Lines.{lines}
-use Rattle.c_opening.specs.Known.{known_tree}
+use Rattle.c_opening.specs.KnownPaths.{known_tree}
 use Rattle.c_opening.proofs.KnownAnswers.{unread_of}
 use Rattle.c_opening.proofs.at_path.unread_layer.Given as goal
 
