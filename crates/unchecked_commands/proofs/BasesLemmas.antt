@@ -158,7 +158,8 @@ none_of_all (text ∷ texts) (id ∷ ids) error spelled (inr later) = none_of_al
 refused-ids : (texts ids : List (List ℕ)) (IsLeftAlone WasLeftAlone : Type 0)
     (Opens : ℕ → ℕ → Result (List Layer) OpenError → Type 0) (before after : ℕ) (refusal : Refusal)
     → AllZip SpellsId texts ids → (IsLeftAlone → after ≡ before)
-    → MayRefuseAll texts IsLeftAlone (Opens before after) refusal → MayCompareUnchecked texts WasLeftAlone Opens before after (Err refusal)
+    → MayRefuseAll texts IsLeftAlone (Opens before after) refusal
+    → MayCompareUnchecked texts WasLeftAlone Opens before after (Err refusal)
 refused-ids texts ids IsLeftAlone WasLeftAlone Opens before after (Id error) spelled kept may =
     absurd (none_of_all texts ids error spelled may.0)
 refused-ids texts ids IsLeftAlone WasLeftAlone Opens before after (Read error) spelled kept may = absurd may

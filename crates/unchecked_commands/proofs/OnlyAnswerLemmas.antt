@@ -1,5 +1,5 @@
 -- the only answer of an opener
-use Rattle.std.proofs.Common.{◌≡◌, ℕ, ◌<◌, List, Option, Some, None, Result, Ok, Err, refl, sym, subst, arith}
+use Rattle.std.proofs.Common.{◌≡◌, ℕ, List, Option, Some, None, Result, Ok, Err, refl, sym, subst, arith}
 use Rattle.std.specs.Prelude.{IsOkAnd}
 use Rattle.std.specs.Option.{ForSome}
 use Rattle.graph_folder.specs.Tree.{Tree}
@@ -7,7 +7,8 @@ use Rattle.graph_format.specs.Layer.{Layer}
 use Rattle.graph_layer.specs.OpenAnswer.{IsAsExpected}
 use Rattle.graph_layer.specs.declared.opening.error.OpenError.{OpenError}
 use Rattle.graph_layer.specs.declared.opening.error.OpenError.TheVariants.{NothingFound, NotOpened, Device, ChainNotText}
-use Rattle.graph_layer.specs.declared.opening.error.OpenError.TheVariants.{OutOfMemory, Layer as layer_error, Graph as graph_error}
+use Rattle.graph_layer.specs.declared.opening.error.OpenError.TheVariants.{OutOfMemory, Layer as layer_error}
+use Rattle.graph_layer.specs.declared.opening.error.OpenError.TheVariants.{Graph as graph_error}
 use Rattle.gix_commitgraph.specs.Opening.{NothingOpens, Opens, StandingOpens, standing_at}
 use Rattle.gix_commitgraph.specs.declared.opening.Standing.{Standing}
 use Rattle.gix_commitgraph.specs.declared.opening.Standing.TheVariants.{File, ChainDir, InfoDir, Nothing}

@@ -38,7 +38,8 @@ returns-clause-compared g c = λ tree is layers shows graph.
     c.args.first.0 (numbers_of c.args.others.now) (commits_in_all (files_of old))
     (count-files old.layers.items
     ∙ shows-total (g.T.Folder.tree c.args.folder.now) old.layers.items layers shows c.requires.parts.each)
-    c.compare-compared.result c.compare-compared.ensures.within c.compare-compared.ensures.visits c.compare-compared.ensures.common c.compare-compared.ensures.exact)
+    c.compare-compared.result c.compare-compared.ensures.within c.compare-compared.ensures.visits
+    c.compare-compared.ensures.common c.compare-compared.ensures.exact)
 
 pub returns-clause-failures : goal.returns-clause-failures
 returns-clause-failures g c =
