@@ -4,7 +4,7 @@ use Rattle.std.proofs.Common.{string_bytes, subst, sym, ◌==◌, ◌∙◌}
 use Rattle.graph_layer.specs.OpenRefusals.{OutOfMemoryStandsAlone}
 use Rattle.graph_layer.specs.declared.opening.error.OpenError.TheVariants as opening
 use Rattle.c_opening.specs.AtPath.{IsErrorAt, IsUnknown, IsUnopenedAt, RefusesPath, TellsOpening, TellsUnopened, WantsPath}
-use Rattle.c_opening.specs.AtPath.{told_unread}
+use Rattle.c_opening.specs.AtPath.{only_code, told_unread}
 use Rattle.c_opening.specs.Answers.{written}
 use Rattle.c_opening.specs.Codes.{out_of_memory, path_wanted}
 use Rattle.c_opening.specs.KnownPaths.{known_at, unread}
@@ -15,14 +15,14 @@ use Rattle.c_opening.specs.declared.known.CgKnown.{CgKnown}
 use Rattle.c_opening.specs.declared.paths.CgPathError.{CgPathError}
 
 module _ (known : List CgKnown) (told : CgPathError) (old new : List ℕ) where
-  -- what is told of the answer, unless memory ran out
+  -- what is told of the answer, unless memory ran out and no path is told
   pub tells_answer : (answer : KnownAnswer) (why : Unopened) → AnswersAs answer (Err why) → TellsUnopened known why told old new
-      → told.code ≢ out_of_memory → TellsOpening known answer told old new
+      → told ≢ only_code out_of_memory → TellsOpening known answer told old new
   tells_answer answer (unopened.Unread path) is tells no_memory =
       subst (λ (it : KnownAnswer). TellsOpening known it told old new) (sym is) tells
   tells_answer answer (unopened.Refused error file) is tells no_memory =
       subst (λ (it : KnownAnswer). TellsOpening known it told old new) (sym is) tells
-  tells_answer answer unopened.NoMemory is tells no_memory = absurd (no_memory (ap (λ (t : CgPathError). t.code) tells.0))
+  tells_answer answer unopened.NoMemory is tells no_memory = absurd (no_memory tells.0)
 
   -- a path that is wanted
   pub wants_path : (answer : KnownAnswer) (why : Unopened) → AnswersAs answer (Err why) → TellsUnopened known why told old new

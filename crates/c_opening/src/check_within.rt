@@ -1,7 +1,8 @@
 //! A check that a limit stops.
 
-ghost use Rattle.std.specs.Prelude.{◌≡◌, ◌≢◌, ◌⊎◌, IfNone, IfSome, IsSomeAnd, Some, true};
+ghost use Rattle.std.specs.Prelude.{◌≡◌, ◌≢◌, ◌⊎◌, ◌≤◌, IfNone, IfSome, IsSomeAnd, Some, true};
 ghost use Rattle.gix_commitgraph.specs.Distinct.{IsSoundWith};
+ghost use Rattle.gix_commitgraph.specs.Graph.{total};
 ghost use Rattle.c_opening.specs.Files.{told_graph};
 ghost use Rattle.c_opening.specs.ToldLimit.{told_bound};
 ghost use Rattle.c_opening.specs.Verdict.{TellsRefusalWithin, TellsCounts, TellsStats};
@@ -33,6 +34,8 @@ pub fn cg_check_within(
         out.new.address.held ≡ Some (was.0, true)) }
     ensures right { result ≡ 0 → IsSomeAnd graph.address.held (λ was.
         IsSoundWith (options_of distinct_ids) was.0) }
+    ensures within { result ≡ 0 → IsSomeAnd graph.address.held (λ was.
+        total was.0 ≤ limit.visits) }
     ensures verdict { result ≡ 0 → IsSomeAnd graph.address.held (λ was.
         TellsStats was.0 verdict.new × TellsCounts was.0 verdict.new counts.old counts.new) }
     ensures refused { result ≢ 0 → IfSome graph.address.held (λ was.

@@ -53,7 +53,7 @@ pub fn cg_open_known(
     ensures kept { result.code ≢ 0 → out.new ≡ out.old }
     ensures text { ¬ IsUtf8 path.now
         → (result ≡ only_code path_not_utf8) × (file.new ≡ file.old) }
-    ensures answer { IsUtf8 path.now → result.code ≢ out_of_memory
+    ensures answer { IsUtf8 path.now → result ≢ only_code out_of_memory
         → TellsOpening known.now (known_opened what known.now path.now) result file.old file.new }
     ensures wanted { result.code ≡ path_wanted
         → WantsPath known.now (known_opened what known.now path.now) result file.old file.new }

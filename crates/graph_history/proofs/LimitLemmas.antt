@@ -1,10 +1,11 @@
 -- Searches of a right graph in memory that a limit may stop, and checks that it may.
-use Rattle.std.proofs.Common.{◌≡◌, ◌≢◌, ◌⊎◌, ℕ, zero, suc, ◌+◌, ◌^◌, ◌-◌, ◌<◌, min, List, [], ◌∷◌, ◌++◌, length, sym, ap, ◌∙◌}
-use Rattle.std.proofs.Common.{subst, ⊎_elim, arith, length-append, Result, Ok, Err, IfErr}
+use Rattle.std.proofs.Common.{◌≡◌, ◌≢◌, ◌⊎◌, ℕ, zero, suc, ◌+◌, ◌^◌, ◌-◌, ◌<◌, ◌≤◌, min, List, [], ◌∷◌, ◌++◌, length, sym, ap}
+use Rattle.std.proofs.Common.{◌∙◌, subst, ⊎_elim, arith, length-append, Result, Ok, Err, IfErr}
 use Rattle.std.specs.Prelude.{⊤}
 use Rattle.std.specs.List.{range_with_len}
+use Rattle.std.proofs.lemmas.List.FromFn.{length-range_with_len}
 use Rattle.graph_format.specs.Layer.{Layer}
-use Rattle.graph_format.specs.Points.{Point, StopsAtCall, Agrees, calls, call, first_fault}
+use Rattle.graph_format.specs.Points.{Accepts, Agrees, PassesAll, Point, StopsAtCall, call, calls, first_fault}
 use Rattle.graph_format.specs.StoredHistory.{history_of}
 use Rattle.graph_format.proofs.PointLemmas.{calls-append}
 use Rattle.gix_commitgraph.specs.Distinct.{IsDeservedWith}
@@ -92,36 +93,61 @@ range_at k (suc n) (x ∷ before) p after same =
 module _ {F : Type 0} (step : F → ℕ → Result (Unit {0}) Stopped → F → Type 0) (value : F → ℕ) (bound_at : F → Bound)
     (more : (f : F) (p : ℕ) (g : F) → step f p (Ok tt) g
     → (value g ≡ min (value f + 1) (2 ^ 32 - 1)) × (bound_at g ≡ bound_at f))
-    (stops : (f : F) (p : ℕ) (e : Stopped) (g : F) → step f p (Err e) g → StopsAfter (bound_at f) (value f))
     (bound : Bound) (options : VerifyOptions) (layers : List Layer)
     (all : calls (points_with {E = Stopped} options layers) ≡ range_with_len 0 (total layers)) (few : total layers < 2 ^ 32)
     (f g : F) (none : value f ≡ 0) (same : bound_at f ≡ bound) where
-  stopped_at : (p : ℕ) (e : Stopped) → StopsAtCall step (points_with {E = Stopped} options layers) f g p e
-      → (p < total layers) × StopsAfter bound p
-  stopped_at p e at =
-      let earlier : List ℕ = calls at.before in
-      let split : range_with_len 0 (total layers) ≡ earlier ++ p ∷ calls at.after =
-      sym all ∙ ap calls at.split ∙ calls-append at.before (call p ∷ at.after) in
-      let place = range_at 0 (total layers) earlier p (calls at.after) split in
-      let counts = counted (λ h q k. step h q (Ok tt) k) value bound_at more earlier f at.then at.accepted
-      (omega (arith, none, place.1, few)) in
-      let visits : value at.then ≡ p = omega (arith, counts.0, none, place.0) in (
-        omega (arith, place.0, place.1),
-        subst (λ (n : ℕ). StopsAfter bound n) visits
-            (subst (λ (b : Bound). StopsAfter b (value at.then)) (counts.1 ∙ same) (stops at.then p e g at.answered)),
-      )
+  -- It accepts where fewer were counted than may be visited.
+  module _ (on : (h : F) (p : ℕ) (k : F) → step h p (Ok tt) k → value h < (bound_at h).visits) where
+    accepts_within : (xs : List ℕ) (h k : F) → Accepts step h xs k → value h + length xs < 2 ^ 32
+        → value h ≤ (bound_at h).visits → value h + length xs ≤ (bound_at h).visits
+    accepts_within [] h k accepted fits first = omega (arith, first)
+    accepts_within (x ∷ xs) h k accepted fits first =
+        let then : F = accepted.0 in
+        let one = more h x then accepted.1 in
+        let next : value then ≡ value h + 1 = omega (arith, one.0, fits) in
+        let before : value then ≤ (bound_at h).visits = omega (arith, next, on h x then accepted.1) in
+        let rest =
+        accepts_within xs then k accepted.2 (omega (arith, next, fits))
+        (subst (λ (b : Bound). value then ≤ b.visits) (sym one.1) before) in
+        omega (arith, next, subst (λ (b : Bound). value then + length xs ≤ b.visits) one.1 rest)
 
-  pub refused_within : (x : VerifyError Stopped)
-      → Agrees step (points_with {E = Stopped} options layers) f g {T = Outcome} cause_of (Err x)
-      → IsDeservedWith options layers x → MayRefuseWithin bound options layers x
-  refused_within (error.Processor pos e) agrees deserved = stopped_at pos.0 e agrees
-  refused_within error.OutOfMemory agrees deserved = tt
-  refused_within error.TooManyFiles agrees deserved = (agrees.fault, deserved)
-  refused_within (error.BaseCount i) agrees deserved = (agrees.fault, deserved)
-  refused_within (error.BaseId i j) agrees deserved = (agrees.fault, deserved)
-  refused_within (error.Layer i fault) agrees deserved = (agrees.fault, deserved)
-  refused_within (error.Commit pos fault) agrees deserved = (agrees.fault, deserved)
-  refused_within (error.Parent pos fault) agrees deserved = (agrees.fault, deserved)
-  refused_within (error.ParentOutOfRange pos parent) agrees deserved = (agrees.fault, deserved)
-  refused_within (error.Generation pos expected) agrees deserved = (agrees.fault, deserved)
-  refused_within (error.DuplicateId pos earlier) agrees deserved = (agrees.fault, deserved)
+    pub accepted_within : PassesAll step (points_with {E = Stopped} options layers) f g → total layers ≤ bound.visits
+    accepted_within passes =
+        let size : length (calls (points_with {E = Stopped} options layers)) ≡ total layers =
+        ap length all ∙ length-range_with_len 0 (total layers) in
+        let visited =
+        accepts_within (calls (points_with {E = Stopped} options layers)) f g passes.accepted
+        (omega (arith, none, size, few)) (omega (arith, none)) in
+        subst (λ (b : Bound). total layers ≤ b.visits) same (omega (arith, none, size, visited))
+
+  -- It stops where as many were counted as may be visited, or where there is a flag.
+  module _ (stops : (h : F) (p : ℕ) (e : Stopped) (k : F) → step h p (Err e) k → StopsAfter (bound_at h) (value h)) where
+    stopped_at : (p : ℕ) (e : Stopped) → StopsAtCall step (points_with {E = Stopped} options layers) f g p e
+        → (p < total layers) × StopsAfter bound p
+    stopped_at p e at =
+        let earlier : List ℕ = calls at.before in
+        let split : range_with_len 0 (total layers) ≡ earlier ++ p ∷ calls at.after =
+        sym all ∙ ap calls at.split ∙ calls-append at.before (call p ∷ at.after) in
+        let place = range_at 0 (total layers) earlier p (calls at.after) split in
+        let counts = counted (λ h q k. step h q (Ok tt) k) value bound_at more earlier f at.then at.accepted
+        (omega (arith, none, place.1, few)) in
+        let visits : value at.then ≡ p = omega (arith, counts.0, none, place.0) in (
+          omega (arith, place.0, place.1),
+          subst (λ (n : ℕ). StopsAfter bound n) visits
+              (subst (λ (b : Bound). StopsAfter b (value at.then)) (counts.1 ∙ same) (stops at.then p e g at.answered)),
+        )
+
+    pub refused_within : (x : VerifyError Stopped)
+        → Agrees step (points_with {E = Stopped} options layers) f g {T = Outcome} cause_of (Err x)
+        → IsDeservedWith options layers x → MayRefuseWithin bound options layers x
+    refused_within (error.Processor pos e) agrees deserved = stopped_at pos.0 e agrees
+    refused_within error.OutOfMemory agrees deserved = tt
+    refused_within error.TooManyFiles agrees deserved = (agrees.fault, deserved)
+    refused_within (error.BaseCount i) agrees deserved = (agrees.fault, deserved)
+    refused_within (error.BaseId i j) agrees deserved = (agrees.fault, deserved)
+    refused_within (error.Layer i fault) agrees deserved = (agrees.fault, deserved)
+    refused_within (error.Commit pos fault) agrees deserved = (agrees.fault, deserved)
+    refused_within (error.Parent pos fault) agrees deserved = (agrees.fault, deserved)
+    refused_within (error.ParentOutOfRange pos parent) agrees deserved = (agrees.fault, deserved)
+    refused_within (error.Generation pos expected) agrees deserved = (agrees.fault, deserved)
+    refused_within (error.DuplicateId pos earlier) agrees deserved = (agrees.fault, deserved)

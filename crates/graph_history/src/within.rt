@@ -188,6 +188,7 @@ impl CheckedGraph {
         ensures graph { IfOk result (λ checked. checked.layers ≡ graph) }
         ensures options { IfOk result (λ checked. checked.options ≡ options) }
         ensures sound { IfOk result (λ _. IsSoundWith options graph) }
+        ensures within { IfOk result (λ _. total graph ≤ limit.entry.visits) }
         ensures refusal { IfErr result (MayRefuseWithin (bound_of limit.entry) options graph) }
     {
         a_check_of_a_graph_calls_on_each_position_once::<Stopped>();

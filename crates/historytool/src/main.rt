@@ -8,10 +8,12 @@
 //! a failed write are reported on standard error.
 #![tactic(auto)]
 
+mod command;
+
+use crate::command::{Command, Texts};
 use graph_commands::program::{Complaints, respond};
 use graph_commands::status::Status;
 use graph_folder::folder::Disk;
-use history_program::command::{Command, Texts};
 use std::process::ExitCode;
 use std::{env, fs, io};
 

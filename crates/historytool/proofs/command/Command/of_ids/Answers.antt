@@ -1,7 +1,7 @@
 -- The words after the name are those that it takes, or else no command is asked for.
 use Rattle.std.proofs.Common.{◌∷◌, ℕ, List, IfSome, map, string_bytes, subst, sym}
-use Rattle.history_program.specs.HistorytoolCommands.{AskAfterName}
-use Rattle.history_program.proofs.command.Command.of_ids.Goals as goal
+use Rattle.historytool.specs.HistorytoolCommands.{AskAfterName}
+use Rattle.historytool.proofs.command.Command.of_ids.Goals as goal
 
 pub returns-in-ask-clause-asked : goal.returns-in-ask-clause-asked
 returns-in-ask-clause-asked c help version =

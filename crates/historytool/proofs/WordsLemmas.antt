@@ -6,9 +6,9 @@ use Rattle.std.specs.Prelude.{String, Bool, true, false, Option, Some, None, IfS
 use Rattle.std.specs.Global.{Global}
 use Rattle.object_commands.specs.AskedRange.{SpellsRange}
 use Rattle.object_commands.specs.declared.range.PositionRange.{PositionRange}
-use Rattle.history_program.specs.HistorytoolCommands.{AreQuestionWords, AskAfterName, AskHistorytool}
-use Rattle.history_program.specs.declared.command.Command.{Command}
-use Rattle.history_program.specs.declared.command.Command.TheVariants as command
+use Rattle.historytool.specs.HistorytoolCommands.{AreQuestionWords, AskAfterName, AskHistorytool}
+use Rattle.historytool.specs.declared.command.Command.{Command}
+use Rattle.historytool.specs.declared.command.Command.TheVariants as command
 
 -- the words of a question are its name and two more or others
 long : (name path one : List ℕ) (unchecked : Bool) (more words : List (List ℕ))

@@ -1,7 +1,7 @@
 -- There is no word after the path.
 use Rattle.std.proofs.Common.{◌≡◌, [], ap, arith, map, string_bytes}
 use Rattle.std.proofs.lemmas.List.{nil_from_length}
-use Rattle.history_program.proofs.command.Command.ask_unchecked.Goals as goal
+use Rattle.historytool.proofs.command.Command.ask_unchecked.Goals as goal
 
 pub returns-in-empty-clause-asked : goal.returns-in-empty-clause-asked
 returns-in-empty-clause-asked c help version =

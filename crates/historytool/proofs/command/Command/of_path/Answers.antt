@@ -1,7 +1,7 @@
 -- The words of `ask` are those of its name.
 use Rattle.std.proofs.Common.{◌∷◌, [], ℕ, List, IfSome, subst, sym}
-use Rattle.history_program.specs.HistorytoolCommands.{AskAfterName}
-use Rattle.history_program.proofs.command.Command.of_path.Goals as goal
+use Rattle.historytool.specs.HistorytoolCommands.{AskAfterName}
+use Rattle.historytool.proofs.command.Command.of_path.Goals as goal
 
 pub returns-in-ask-clause-asked : goal.returns-in-ask-clause-asked
 returns-in-ask-clause-asked c help version =

@@ -3,7 +3,7 @@
 use Rattle.std.specs.Prelude.{◌≡◌, ◌≢◌, ◌⊎◌, ℕ, List, [], ◌∷◌, Some, None, codes, map, string_bytes, Result, Option}
 use Rattle.std.specs.Prelude.{Bool, true, false, option_map}
 use Rattle.object_commands.specs.AskedRange.{SpellsRange}
-use Rattle.history_program.specs.declared.command.Command.{Command}
+use Rattle.historytool.specs.declared.command.Command.{Command}
 use Rattle.std.specs.Io.KnownBytes.{Appends}
 use Rattle.graph_format.specs.Layer.{Layer}
 use Rattle.graph_layer.specs.declared.opening.error.OpenError.{OpenError}
@@ -25,7 +25,7 @@ use Rattle.unchecked_commands.specs.UncheckedAncestor.{MayTellUnchecked}
 use Rattle.unchecked_commands.specs.UncheckedBases.{MayCompareUnchecked, told_bases_text, told_bases_status, told_ids_text}
 use Rattle.unchecked_commands.specs.UncheckedWalk.{MayWalkUnchecked}
 use Rattle.unchecked_questions.specs.Trusting.{MayAskTrusted, trusted_text, trusted_status}
-use Rattle.history_program.specs.declared.command.Command.TheVariants as command
+use Rattle.historytool.specs.declared.command.Command.TheVariants as command
 
 -- these are the words of a command about the graph at the path, and ids if it takes some, after the program's own name: the word
 -- `--unchecked` before the path says that the graph is not to be checked, and is no path itself

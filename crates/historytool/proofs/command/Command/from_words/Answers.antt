@@ -1,8 +1,8 @@
 -- The words of the pattern are all words.
 use Rattle.std.proofs.Common.{◌∷◌, [], get_or, map, string_bytes, take, drop, length, ◌-◌, arith}
 use Rattle.graph_commands.proofs.WordsLemmas.{are_three}
-use Rattle.history_program.proofs.WordsLemmas.{asked_by_all, four_words}
-use Rattle.history_program.proofs.command.Command.from_words.Goals as goal
+use Rattle.historytool.proofs.WordsLemmas.{asked_by_all, four_words}
+use Rattle.historytool.proofs.command.Command.from_words.Goals as goal
 
 pub returns-in-len3-clause-asked : goal.returns-in-len3-clause-asked
 returns-in-len3-clause-asked c =

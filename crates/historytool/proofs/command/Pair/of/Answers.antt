@@ -1,8 +1,8 @@
 -- There is just one other id.
 use Rattle.std.proofs.Common.{◌≡◌, ◌∷◌, [], ℕ, List, map, string_bytes, subst, arith}
-use Rattle.history_program.specs.HistorytoolCommands.{AreQuestionWords}
-use Rattle.history_program.proofs.WordsLemmas.{one_word, two_words}
-use Rattle.history_program.proofs.command.Pair.of.Goals as goal
+use Rattle.historytool.specs.HistorytoolCommands.{AreQuestionWords}
+use Rattle.historytool.proofs.WordsLemmas.{one_word, two_words}
+use Rattle.historytool.proofs.command.Pair.of.Goals as goal
 
 pub returns-in-len1-clause-some : goal.returns-in-len1-clause-some
 returns-in-len1-clause-some c name =

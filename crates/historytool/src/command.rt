@@ -2,14 +2,14 @@
 
 ghost use Rattle.std.specs.Prelude.{◌≡◌, ◌≢◌, ◌∷◌, [], ℕ, List, Bool, IfOk, IfSome, IsNone};
 ghost use Rattle.std.specs.Prelude.{codes, map, string_bytes};
-ghost use Rattle.history_program.specs.HistorytoolCommands.{AreQuestionWords, AskAfterName};
-ghost use Rattle.history_program.specs.HistorytoolCommands.{AskHistorytool, TellsOfItself};
-ghost use Rattle.history_program.specs.HistorytoolCommands.{TellsOfAncestor, TellsOfWalk};
-ghost use Rattle.history_program.specs.HistorytoolCommands.{TellsOfBases, TellsOfBaseIds};
+ghost use Rattle.historytool.specs.HistorytoolCommands.{AreQuestionWords, AskAfterName};
+ghost use Rattle.historytool.specs.HistorytoolCommands.{AskHistorytool, TellsOfItself};
+ghost use Rattle.historytool.specs.HistorytoolCommands.{TellsOfAncestor, TellsOfWalk};
+ghost use Rattle.historytool.specs.HistorytoolCommands.{TellsOfBases, TellsOfBaseIds};
 ghost use Rattle.graph_commands.specs.OpenerAnswer.{MayOpen};
 ghost use Rattle.object_commands.specs.AskedRange.{SpellsRange};
 ghost use Rattle.object_commands.specs.declared.range.PositionRange as declared;
-ghost use Rattle.history_program.specs.declared.command.Command.{Command};
+ghost use Rattle.historytool.specs.declared.command.Command.{Command};
 
 use graph_commands::line::{WriteFailed, write_line};
 use graph_commands::program::Run;
@@ -354,7 +354,7 @@ fn range_of(from: &str, others: &[String]) -> Option<PositionRange>
 }
 
 impl Run for Command<'_> {
-    ghost use Rattle.history_program.specs.HistorytoolCommands.{HistorytoolMayWrite};
+    ghost use Rattle.historytool.specs.HistorytoolCommands.{HistorytoolMayWrite};
 
     ghost MayWrite = { HistorytoolMayWrite };
 
