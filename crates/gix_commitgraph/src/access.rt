@@ -160,6 +160,7 @@ impl Graph {
     }
 
     /// The first layer below this one that finds an id, and where.
+    #[inline(always)]
     pub(crate) fn find(&self, id: oid<'_>, layer: usize) -> Option<LookupByIdResult<'_>>
         requires layer { layer ≤ length self.now }
         ensures found { FoundIn (take layer self.now) (oid_bytes id.entry)

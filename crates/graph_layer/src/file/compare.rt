@@ -23,6 +23,6 @@ pub fn compare_ids(one: &[u8], other: &[u8]) -> Ordering
     } else if second < first {
         Ordering::Greater
     } else {
-        one.cmp(&other)
+        one[8..].cmp(&&other[8..])
     }
 }
