@@ -136,7 +136,7 @@ def prove_in(folder, words):
         raise RuntimeError(said[-4000:])
 
 
-def prove(crate, jobs, date=None):
+def prove(crate, jobs, priority=(), date=None):
     """Proves and builds one crate. It is dated to the start, so that a source that is edited meanwhile is newer than it."""
     started, to = time.time(), made(crate)
     if is_program(crate):
@@ -145,7 +145,7 @@ def prove(crate, jobs, date=None):
         root, kind = "lib", ["--statements", "-o", to]
         shutil.rmtree(to.parent, ignore_errors=True)
     to.parent.mkdir(parents=True, exist_ok=True)
-    prove_in(CRATES / crate, build_words(crate, USES[crate], root, kind, jobs))
+    prove_in(CRATES / crate, [*priority, *build_words(crate, USES[crate], root, kind, jobs)])
     if is_program(crate):
         run(link_words(to), CRATES / crate)
     os.utime(dated(crate), (date or started,) * 2)
@@ -198,11 +198,26 @@ def build_archive(jobs, date=None):
     print(f"{archive().name}: proved in {time.time() - started:.0f} s", flush=True)
 
 
+@functools.lru_cache(maxsize=None)
+def lines(crate):
+    """How many lines the files of a crate have. The time of a proof is taken to grow with them."""
+    return sum(path.read_bytes().count(b"\n") for path in source_files(crate))
+
+
+def chains(crates):
+    """For each of some crates, the lowest first, the lines of the longest chain that begins with it, of crates that use one
+    another."""
+    found = {}
+    for crate in reversed(crates):
+        found[crate] = lines(crate) + max((found[other] for other in found if crate in below(other)), default=0)
+    return found
+
+
 def prove_all(crates, date):
     """Proves crates, each as soon as those that it uses are proved, with the jobs that are free, and dates them. Of those that
-    are ready, the one on which most others rest comes first."""
-    left = sorted(crates, key=lambda crate: -sum(crate in below(other) for other in crates))
-    running, idle = {}, most_jobs()
+    are ready, the one with the longest chain comes first. One that is in time at half the speed leaves the processors to it."""
+    chain = chains(crates)
+    left, running, idle = sorted(crates, key=lambda crate: -chain[crate]), {}, most_jobs()
     with concurrent.futures.ThreadPoolExecutor(len(crates) + 1) as pool:
         while left or running:
             waited_for = {*left, *(crate for crate, _ in running.values())}
@@ -211,7 +226,9 @@ def prove_all(crates, date):
                 crate, jobs = ready[0], min(PROCESSORS, max(1, -(-idle // len(ready))))
                 ready.remove(crate)
                 left.remove(crate)
-                running[pool.submit(prove, crate, jobs, date)] = crate, jobs
+                longest = max(chain[other] for other in (crate, *(other for other, _ in running.values())))
+                priority = ["nice"] if chain[crate] + lines(crate) < longest else []
+                running[pool.submit(prove, crate, jobs, priority, date)] = crate, jobs
                 idle -= jobs
             for done in concurrent.futures.wait(running, return_when=concurrent.futures.FIRST_COMPLETED).done:
                 idle += running.pop(done)[1]
