@@ -200,8 +200,8 @@ def build_archive(jobs, date=None):
 
 @functools.lru_cache(maxsize=None)
 def lines(crate):
-    """How many lines the files of a crate have. The time of a proof is taken to grow with them."""
-    return sum(path.read_bytes().count(b"\n") for path in source_files(crate))
+    """How many lines of code and contracts a crate has. The time of a proof is taken to grow with them."""
+    return sum(path.read_bytes().count(b"\n") for path in source_files(crate) if path.suffix == ".rt")
 
 
 def chains(crates):
