@@ -214,8 +214,9 @@ def chains(crates):
 
 
 def prove_all(crates, date):
-    """Proves crates, each as soon as those that it uses are proved, with the jobs that are free, and dates them. Of those that
-    are ready, the one with the longest chain comes first. One that is in time at half the speed leaves the processors to it."""
+    """Proves crates, each as soon as those that it uses are proved, and dates them. Those that are ready share the jobs that are
+    free by their lines. The one with the longest chain comes first, and one that is in time at half the speed leaves the
+    processors to it."""
     chain = chains(crates)
     left, running, idle = sorted(crates, key=lambda crate: -chain[crate]), {}, most_jobs()
     with concurrent.futures.ThreadPoolExecutor(len(crates) + 1) as pool:
@@ -223,7 +224,8 @@ def prove_all(crates, date):
             waited_for = {*left, *(crate for crate, _ in running.values())}
             ready = [crate for crate in left if waited_for.isdisjoint(below(crate))]
             while ready and (idle or not running):
-                crate, jobs = ready[0], min(PROCESSORS, max(1, -(-idle // len(ready))))
+                crate = ready[0]
+                jobs = min(PROCESSORS, max(1, round(idle * lines(crate) / sum(map(lines, ready)))))
                 ready.remove(crate)
                 left.remove(crate)
                 longest = max(chain[other] for other in (crate, *(other for other, _ in running.values())))
