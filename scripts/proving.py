@@ -214,9 +214,9 @@ def chains(crates):
 
 
 def prove_all(crates, date):
-    """Proves crates, each as soon as those that it uses are proved, and dates them. Those that are ready share the jobs that are
-    free by their lines. The one with the longest chain comes first, and one that is in time at half the speed leaves the
-    processors to it."""
+    """Proves crates, each as soon as those that it uses are proved, and dates them. Of those that are ready the one with the
+    longest chain comes first. One that would be in time at half the speed is aside: it takes what the others leave of the
+    processors. The others share the jobs that are free, by their lines."""
     chain = chains(crates)
     left, running, idle = sorted(crates, key=lambda crate: -chain[crate]), {}, most_jobs()
     with concurrent.futures.ThreadPoolExecutor(len(crates) + 1) as pool:
@@ -225,12 +225,13 @@ def prove_all(crates, date):
             ready = [crate for crate in left if waited_for.isdisjoint(below(crate))]
             while ready and (idle or not running):
                 crate = ready[0]
-                jobs = min(PROCESSORS, max(1, round(idle * lines(crate) / sum(map(lines, ready)))))
+                longest = max(chain[name] for name in (crate, *(name for name, _ in running.values())))
+                aside = [name for name in ready if chain[name] + lines(name) < longest]
+                sharing = [name for name in ready if name not in aside] or [crate]
+                jobs = min(PROCESSORS, max(1, round(idle * lines(crate) / sum(map(lines, sharing)))))
                 ready.remove(crate)
                 left.remove(crate)
-                longest = max(chain[other] for other in (crate, *(other for other, _ in running.values())))
-                priority = ["nice"] if chain[crate] + lines(crate) < longest else []
-                running[pool.submit(prove, crate, jobs, priority, date)] = crate, jobs
+                running[pool.submit(prove, crate, jobs, ["nice"] if crate in aside else [], date)] = crate, jobs
                 idle -= jobs
             for done in concurrent.futures.wait(running, return_when=concurrent.futures.FIRST_COMPLETED).done:
                 idle += running.pop(done)[1]
