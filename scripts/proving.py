@@ -36,6 +36,8 @@ USED = re.compile(r"^use (?!crate::)([\w:]+)::(?:\{([^}]*)\}|(\w+));", re.MULTIL
 PROCESSORS = len(os.sched_getaffinity(0))
 MEMORY = 3 * 2**30
 """As many bytes of memory has to be there for each job of a check."""
+HALF_SPEED = ["nice", "-n", "3"]
+"""Where processors are wanted, a process gets about half as much of them with these words before its command."""
 
 
 @functools.lru_cache(maxsize=None)
@@ -215,8 +217,8 @@ def chains(crates):
 
 def prove_all(crates, date):
     """Proves crates, each as soon as those that it uses are proved, and dates them. Of those that are ready the one with the
-    longest chain comes first. One that would be in time at half the speed is aside: it takes what the others leave of the
-    processors. The others share the jobs that are free, by their lines."""
+    longest chain comes first. One that would be in time at half the speed stands aside. The others share the jobs that are free,
+    by their lines."""
     chain = chains(crates)
     left, running, idle = sorted(crates, key=lambda crate: -chain[crate]), {}, most_jobs()
     with concurrent.futures.ThreadPoolExecutor(len(crates) + 1) as pool:
@@ -231,7 +233,7 @@ def prove_all(crates, date):
                 jobs = min(PROCESSORS, max(1, round(idle * lines(crate) / sum(map(lines, sharing)))))
                 ready.remove(crate)
                 left.remove(crate)
-                running[pool.submit(prove, crate, jobs, ["nice"] if crate in aside else [], date)] = crate, jobs
+                running[pool.submit(prove, crate, jobs, HALF_SPEED if crate in aside else [], date)] = crate, jobs
                 idle -= jobs
             for done in concurrent.futures.wait(running, return_when=concurrent.futures.FIRST_COMPLETED).done:
                 idle += running.pop(done)[1]
