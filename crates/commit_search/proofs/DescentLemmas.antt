@@ -1,13 +1,13 @@
 -- A search depth first, as it visits commits.
-use Rattle.std.proofs.Common.{◌≡◌, ◌≢◌, ◌⊎◌, ℕ, ◌<◌, ◌≤◌, List, [], ◌∷◌, ◌++◌, length, Contains, sym, ap, ◌∙◌, subst}
-use Rattle.std.proofs.Common.{inl, inr, ⊎_elim, arith}
+use Rattle.std.proofs.Common.{◌≡◌, ◌≢◌, ◌⊎◌, ℕ, zero, suc, ◌+◌, ◌<◌, ◌≤◌, List, [], ◌∷◌, ◌++◌, length, Contains, sym, ap, ◌∙◌}
+use Rattle.std.proofs.Common.{subst, inl, inr, ⊎_elim, arith}
 use Rattle.std.proofs.lemmas.Bool.{cases_lt}
 use Rattle.std.proofs.lemmas.List.Elements.{Contains-push, Contains-push_cases, Contains-append_left}
 use Rattle.graph_walks.specs.History.{Node, IsParent, generation_at}
 use Rattle.graph_walks.specs.Walks.{Reaches}
 use Rattle.commit_search.specs.Marks.{Marked}
-use Rattle.commit_search.specs.Queue.{IsQueue, Extends, QueuesParents, commit_in}
-use Rattle.commit_search.proofs.QueueLemmas.{commit_extends, queued_extends}
+use Rattle.commit_search.specs.Queue.{IsQueue, IsQueued, Extends, QueuesParents, Depth, commit_in, child_in}
+use Rattle.commit_search.proofs.QueueLemmas.{commit_extends, child_extends, queued_extends}
 use Rattle.commit_search.proofs.ShortestWalkLemmas.{all_queued}
 
 -- the places of the queue that are on the stack
@@ -75,15 +75,54 @@ descent_goes_on h least to a b before rest after place split descent extends par
     (λ (hi : length a ≤ i). inl (new i hi lt))
     (cases_lt i (length a))
 
--- where nothing is left to visit, the commit was not reached
-pub descent_ends : (h : List Node) (least from to : ℕ) (queued : List Marked) (stack : List ℕ) → IsQueue h least queued
-    → ((p q : ℕ) → Reaches h p q → generation_at h q ≤ generation_at h p) → 0 < length queued → commit_in queued 0 ≡ from
-    → least ≤ generation_at h to → IsDescent h least to queued stack → length stack ≡ 0 → Reaches h from to → ⊥
-descent_ends h least from to queued stack queue never_rises some first high descent none reaches =
-    let done : (i : ℕ) → i < length queued → QueuesParents h least queued i × (commit_in queued i ≢ to) = λ i lt.
-    ⊎_elim
-    (λ (left : Contains stack i). absurd (omega (arith, left.1)))
-    (λ (done : QueuesParents h least queued i × (commit_in queued i ≢ to)). done)
-    (descent i lt) in
-    let at = all_queued h least queued queue never_rises (λ i lt. (done i lt).0) from to (0, some, first) high reaches in
-    (done at.0 at.1).1 at.2
+-- no place is deeper than commits were visited
+abbrev pub AreShallow : List Marked → ℕ → Type 0
+AreShallow queued visits = (i d : ℕ) → i < length queued → Depth queued i d → d ≤ visits
+
+pub shallow_begins : (queued : List Marked) → length queued ≡ 1 → AreShallow queued 0
+shallow_begins queued one i zero lt depth = omega arith
+shallow_begins queued one i (suc d) lt depth = let pos = depth.0 in absurd (omega arith)
+
+-- a visit of the commit at place c
+module _ (a b : List Marked) (c : ℕ) (extends : Extends a b c)
+    (earlier : (i : ℕ) → 0 < i → i < length a → child_in a i < i) where
+  depth_before : (i d : ℕ) → i < length a → Depth b i d → Depth a i d
+  depth_before i zero lt depth = depth
+  depth_before i (suc d) lt depth =
+      let below = earlier i depth.0 lt in
+      let child = subst (λ (k : ℕ). Depth b k d) (child_extends a b c i extends lt) depth.1 in
+      (depth.0, depth_before (child_in a i) d (omega arith) child)
+
+  module _ (visits : ℕ) (here : c < length a) (shallow : AreShallow a visits) where
+    new_is_shallow : (i d : ℕ) → length a ≤ i → i < length b → Depth b i d → d ≤ visits + 1
+    new_is_shallow i zero from lt depth = omega arith
+    new_is_shallow i (suc d) from lt depth =
+        let child = subst (λ (k : ℕ). Depth b k d) (extends.since i from lt) depth.1 in
+        let le = shallow c d here (depth_before c d here child) in
+        omega arith
+
+    pub shallow_goes_on : AreShallow b (visits + 1)
+    shallow_goes_on i d lt depth =
+        ⊎_elim
+        (λ (lo : i < length a). let le = shallow i d lo (depth_before i d lo depth) in omega arith)
+        (λ (hi : length a ≤ i). new_is_shallow i d hi lt depth)
+        (cases_lt i (length a))
+
+-- where nothing is left to visit
+module _ (h : List Node) (least from to : ℕ) (queued : List Marked) (stack : List ℕ) (queue : IsQueue h least queued)
+    (never_rises : (p q : ℕ) → Reaches h p q → generation_at h q ≤ generation_at h p) (some : 0 < length queued)
+    (first : commit_in queued 0 ≡ from) (descent : IsDescent h least to queued stack) (none : length stack ≡ 0) where
+  done : (i : ℕ) → i < length queued → QueuesParents h least queued i × (commit_in queued i ≢ to)
+  done i lt =
+      ⊎_elim
+      (λ (left : Contains stack i). absurd (omega (arith, left.1)))
+      (λ (is : QueuesParents h least queued i × (commit_in queued i ≢ to)). is)
+      (descent i lt)
+
+  pub descent_has_all : (q : ℕ) → least ≤ generation_at h q → Reaches h from q → IsQueued queued q
+  descent_has_all q high reaches =
+      all_queued h least queued queue never_rises (λ i lt. (done i lt).0) from q (0, some, first) high reaches
+
+  -- the commit was not reached
+  pub descent_ends : least ≤ generation_at h to → Reaches h from to → ⊥
+  descent_ends high reaches = let at = descent_has_all to high reaches in (done at.0 at.1).1 at.2

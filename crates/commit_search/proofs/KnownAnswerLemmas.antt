@@ -33,9 +33,6 @@ module _ (h : List Node) (p q : ℕ) (same : p ≡ q) (within : p < length h) wh
   pub one_is_visited : AtLeast 1 (IsAtOrAbove h p q)
   one_is_visited = (p ∷ [], refl, (λ i j d lt lt' same. absurd (omega arith)), one_at_or_above)
 
-  pub reaches_itself : Reaches h p q
-  reaches_itself = (p ∷ [], one_walk)
-
 -- no visit
 pub none_is_visited : (P : ℕ → Type 0) → AtLeast 0 P
 none_is_visited P = ([], refl, (λ i j d lt lt' same. omega arith), (λ k d lt. absurd (omega arith)))

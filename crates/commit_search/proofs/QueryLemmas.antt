@@ -1,5 +1,5 @@
 -- What a search breadth first has shown when it stops, and that a visit keeps what it has shown so far.
-use Rattle.std.proofs.Common.{◌≡◌, ◌≢◌, ℕ, ◌+◌, ◌<◌, ◌≤◌, List, [], ◌∷◌, length, sym, ap, ◌∙◌, subst, subst₂, ⊎_elim, arith}
+use Rattle.std.proofs.Common.{◌≡◌, ◌≢◌, ℕ, ◌+◌, ◌<◌, ◌≤◌, List, [], ◌∷◌, length, refl, sym, ap, ◌∙◌, subst, subst₂, ⊎_elim, arith}
 use Rattle.std.proofs.lemmas.Bool.{cases_lt}
 use Rattle.graph_walks.specs.History.{Node, IsParent, generation_at}
 use Rattle.graph_walks.specs.Walks.{IsWalkBetween, Reaches}
@@ -157,18 +157,21 @@ module _ (count : ℕ) (says : Told → Type 0) (from to : ℕ) (s : SearchState
         others = others_more (queued_by s) (queued_by after) visits goes_on.extends to lt query.others other;
       }
 
+-- each commit that was queued is reached and may lead to the one that is looked for
+pub each_at_or_above : (h : List Node) (least from to : ℕ) (queued : List Marked) (n : ℕ) → IsQueue h least queued
+    → commit_in queued 0 ≡ from → least ≡ generation_at h to → n ≤ length queued → AtLeast n (IsAtOrAbove h from to)
+each_at_or_above h least from to queued n queue first is le =
+    visited _ _ _ queued queue (IsAtOrAbove h from to) n le (λ i lt. (
+      subst (λ (p : ℕ). Reaches h p (commit_in queued i)) first (queued_is_reached h least queued queue i (omega arith)),
+      omega (arith, is, queue.kept i (omega arith)),
+    ))
+
 module _ (h : List Node) (from to : ℕ) (s : SearchState) (visits : ℕ) (query : IsQuery h from to s visits) where
   queue : IsQueue h (generation_at h to) (queued_by s)
   queue = subst (λ (n : ℕ). IsQueue h n (queued_by s)) query.least query.kept
 
-  -- each commit that was queued is reached and may lead to the one that is looked for
   pub all_at_or_above : (n : ℕ) → n ≤ length (queued_by s) → AtLeast n (IsAtOrAbove h from to)
-  all_at_or_above n le =
-      visited _ _ _ (queued_by s) queue (IsAtOrAbove h from to) n le (λ i lt. (
-        subst (λ (p : ℕ). Reaches h p (commit_in (queued_by s) i)) query.first
-            (queued_is_reached h (generation_at h to) (queued_by s) queue i (omega arith)),
-        queue.kept i (omega arith),
-      ))
+  all_at_or_above n le = each_at_or_above h (generation_at h to) from to (queued_by s) n queue query.first refl le
 
   module _ (never_rises : (p q : ℕ) → Reaches h p q → generation_at h q ≤ generation_at h p) where
     -- where the next commit is the one that is looked for

@@ -8,6 +8,7 @@ use Rattle.graph_walks.proofs.WalkPathLemmas.{Path, between_from_path, path_from
 use Rattle.commit_search.specs.Marks.{Marked}
 use Rattle.commit_search.specs.Queue.{IsQueue, IsQueued, QueuesParents, Depth, commit_in, child_in}
 use Rattle.commit_search.specs.BreadthFirst.{AreInOrder, QueuesParentsFrom}
+use Rattle.commit_search.specs.WalkAnswer.{LeadsWithin}
 
 module _ (h : List Node) (least : ℕ) (queued : List Marked) (queue : IsQueue h least queued) where
   -- each place has a depth
@@ -32,19 +33,27 @@ module _ (h : List Node) (least : ℕ) (queued : List Marked) (queue : IsQueue h
       let below = depth_within d (child_in queued i) (omega arith) x.1 in
       omega arith
 
-  -- a walk from a place begins with the first commit as well
+  -- a walk from a place begins with the first commit as well, as many steps further back as the place is deep
   back : (d i q : ℕ) (rest : List ℕ) → i < length queued → Depth queued i d → Path h (commit_in queued i) q rest
-      → (front : List ℕ) × Path h (commit_in queued 0) q front
-  back zero i q rest lt x path = (rest, subst (λ (k : ℕ). Path h (commit_in queued k) q rest) x path)
+      → (front : List ℕ) × Path h (commit_in queued 0) q front × (length front ≡ d + length rest)
+  back zero i q rest lt x path = (rest, subst (λ (k : ℕ). Path h (commit_in queued k) q rest) x path, omega arith)
   back (suc d) i q rest lt x path =
       let earlier = queue.earlier i x.0 lt in
-      back d (child_in queued i) q (commit_in queued i ∷ rest) (omega arith) x.1 (queue.parents i x.0 lt, path)
+      let further =
+      back d (child_in queued i) q (commit_in queued i ∷ rest) (omega arith) x.1 (queue.parents i x.0 lt, path) in
+      (further.0, further.1, omega (arith, further.2))
+
+  pub queued_is_led_to : (i n : ℕ) → i < length queued → ((d : ℕ) → Depth queued i d → d ≤ n)
+      → LeadsWithin h (commit_in queued 0) (commit_in queued i) n
+  queued_is_led_to i n lt shallow =
+      let depth = depth_of i lt in
+      let path = back depth.0 i (commit_in queued i) [] lt depth.1 (refl, queue.within i lt) in
+      (commit_in queued 0 ∷ path.0, between_from_path h _ _ path.0 path.1, omega (arith, path.2, shallow depth.0 depth.1))
 
   pub queued_is_reached : (i : ℕ) → i < length queued → Reaches h (commit_in queued 0) (commit_in queued i)
   queued_is_reached i lt =
-      let depth = depth_of i lt in
-      let path = back depth.0 i (commit_in queued i) [] lt depth.1 (refl, queue.within i lt) in
-      (commit_in queued 0 ∷ path.0, between_from_path h _ _ path.0 path.1)
+      let led = queued_is_led_to i i lt (λ d depth. depth_within d i lt depth) in
+      (led.0, led.1)
 
   -- where the parents of all places were queued, each commit that is reached and high enough was queued
   module _ (never_rises : (p q : ℕ) → Reaches h p q → generation_at h q ≤ generation_at h p)

@@ -1,6 +1,6 @@
 -- what a query for a walk along parents, from one commit of a history to another, answers; where generation numbers are too low
 -- the search stops, as Git's commit-graph design says
-use Rattle.std.specs.Prelude.{◌≡◌, ◌≢◌, ◌⊎◌, ℕ, ◌<◌, ◌≤◌, List, length, IfSome, IfNone}
+use Rattle.std.specs.Prelude.{◌≡◌, ◌≢◌, ◌⊎◌, ℕ, ◌+◌, ◌<◌, ◌≤◌, List, length, IfSome, IfNone}
 use Rattle.graph_walks.specs.declared.TheConstants.{GENERATION_NUMBER_MAX}
 use Rattle.graph_walks.specs.History.{Node, generation_at}
 use Rattle.graph_walks.specs.Walks.{IsWalkBetween, Reaches}
@@ -25,6 +25,10 @@ IsAbove history from to p = Reaches history from p × (generation_at history to 
 abbrev pub MayLead : List Node → ℕ → ℕ → Type 0
 MayLead history from to =
     (generation_at history to < generation_at history from) ⊎ (GENERATION_NUMBER_MAX ≤ generation_at history from)
+
+-- some walk of at most n steps leads from one commit to another
+abbrev pub LeadsWithin : List Node → ℕ → ℕ → ℕ → Type 0
+LeadsWithin history from to n = (walk : List ℕ) × IsWalkBetween history from to walk × (length walk ≤ n + 1)
 
 -- The answer to a query for a walk.
 pub record IsAnswer (history : List Node) (from to : ℕ) (reached : Reached) : Type 0 where

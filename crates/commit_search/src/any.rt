@@ -1,10 +1,12 @@
 //! Answers to queries over commits that any source gives.
 
 ghost use Rattle.std.specs.Prelude.{◌≡◌, ◌≢◌, ◌⊎◌, ◌<◌, ◌≤◌, ◌∷◌, [], IfOk, IfErr, IfSome};
-ghost use Rattle.std.specs.Prelude.{IfNone, IsTrue, alloc_error};
+ghost use Rattle.std.specs.Prelude.{IfNone, IsTrue, alloc_error, false};
 ghost use Rattle.graph_walks.specs.History.{generation_at};
 ghost use Rattle.graph_walks.specs.Walks.{CountWalks, Reaches};
-ghost use Rattle.commit_search.specs.WalkAnswer.{IsAnswer, IsAnyAnswer, MayLead};
+ghost use Rattle.commit_search.specs.Cardinality.{AtLeast, AtMost};
+ghost use Rattle.commit_search.specs.WalkAnswer.{IsAbove, IsAnswer, IsAnyAnswer, IsAtOrAbove};
+ghost use Rattle.commit_search.specs.WalkAnswer.{LeadsWithin, MayLead};
 ghost use Rattle.commit_search.specs.Search.{IsIdle};
 ghost use Rattle.commit_search.specs.Source.{Told};
 
@@ -147,20 +149,61 @@ impl<M: Marks> MarkSearcher<M> {
             ⊎ (S.Error.from_gives alloc_error e × ((t : Told) → S.says commits.new t
             → MayLead t.history descendant.0 ancestor.0)))) }
     {
+        let (found, _) = self.is_ancestor_counted(commits, ancestor, descendant)?;
+        Ok(found)
+    }
+
+    /// An answer as [`MarkSearcher::is_ancestor`] gives it, and how many commits were visited for
+    /// it, by reading their parents. A yes takes no fewer than a walk between the two has steps,
+    /// and a no no fewer than there are ancestors of `descendant` above the generation number of
+    /// `ancestor`.
+    ///
+    /// # Errors
+    ///
+    /// Those of [`MarkSearcher::is_ancestor`].
+    pub fn is_ancestor_counted<S: CommitSource>(
+        &mut self,
+        commits: &mut S,
+        ancestor: Position,
+        descendant: Position,
+    ) -> Result<(bool, u32), S::Error>
+        requires ancestor { ancestor.0 < S.count (S.known commits.old) }
+        requires descendant { descendant.0 < S.count (S.known commits.old) }
+        ensures known { S.known commits.new ≡ S.known commits.old }
+        ensures kept { (t : Told) → S.says commits.new t → S.says commits.old t }
+        ensures visits { IfOk result (λ told. told.1 ≤ S.count (S.known commits.old)) }
+        ensures once { IfOk result (λ told. (t : Told) → S.says commits.new t
+            → AtLeast told.1 (IsAtOrAbove t.history descendant.0 ancestor.0)) }
+        ensures none { IfOk result (λ told. (t : Told) → S.says commits.new t
+            → (descendant.0 ≡ ancestor.0) ⊎ ¬ MayLead t.history descendant.0 ancestor.0
+            → told.1 ≡ 0) }
+        ensures yes { IfOk result (λ told. (t : Told) → S.says commits.new t
+            → IsTrue told.0 → LeadsWithin t.history descendant.0 ancestor.0 told.1) }
+        ensures no { IfOk result (λ told. (t : Told) → S.says commits.new t
+            → CountWalks t.history → Reaches t.history descendant.0 ancestor.0 → IsTrue told.0) }
+        ensures above { IfOk result (λ told. (t : Told) → S.says commits.new t
+            → CountWalks t.history → told.0 ≡ false
+            → AtMost told.1 (IsAbove t.history descendant.0 ancestor.0)) }
+        ensures refused { IfErr result (λ e. (descendant.0 ≢ ancestor.0)
+            × (S.may_fail (S.known commits.old) e
+            ⊎ (S.Error.from_gives alloc_error e × ((t : Told) → S.says commits.new t
+            → MayLead t.history descendant.0 ancestor.0)))) }
+    {
+        generations_never_rise_along_walks();
         // The contract of `num_commits` says how many commits the source tells of.
         let _commits = commits.num_commits();
         if descendant == ancestor {
-            return Ok(true);
+            return Ok((true, 0));
         }
         let Some(least) = least_number(commits, descendant, ancestor)? else {
-            return Ok(false);
+            return Ok((false, 0));
         };
         let stack = &mut self.stack;
-        let found = self
+        let told = self
             .search
             .reaches(commits, stack, descendant, ancestor, least);
         self.search.clear();
-        found
+        told
     }
 }
 

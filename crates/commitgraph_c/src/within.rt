@@ -6,7 +6,7 @@ ghost use Rattle.graph_walks.specs.Walks.{Reaches};
 ghost use Rattle.graph_format.specs.StoredHistory.{history_of};
 ghost use Rattle.gix_commitgraph.specs.Graph.{total};
 ghost use Rattle.commit_search.specs.WalkAnswer.{MayLead};
-ghost use Rattle.graph_history.specs.Limits.{MayBeStopped};
+ghost use Rattle.graph_history.specs.Limits.{IsToldWithin, MayBeStopped};
 ghost use Rattle.commitgraph_c.specs.QueryAnswers.{IsChecked, TellsAnswer, TellsBases};
 ghost use Rattle.commitgraph_c.specs.QueryAnswers.{TellsNoBases};
 ghost use Rattle.c_opening.specs.Codes.{closed_graph, no_such_position, not_checked, stopped};
@@ -75,6 +75,8 @@ pub fn cg_is_ancestor_within(
 ) -> CgLeads
     ensures answer { result.code ≡ 0 → IsSomeAnd graph.address.held (λ held.
         IsTrue result.found ↔ Reaches (history_of held.0) descendant ancestor) }
+    ensures within { result.code ≡ 0 → IsSomeAnd graph.address.held (λ held.
+        IsToldWithin limit.visits (history_of held.0) descendant ancestor result.found) }
     ensures stopped { result.code ≡ stopped → IsChecked graph.address.held (λ layers.
         MayBeStopped (told_bound limit) (total layers)) }
     ensures nowhere { result.code ≡ no_such_position ↔ IsChecked graph.address.held (λ layers.

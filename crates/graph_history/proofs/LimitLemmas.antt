@@ -1,23 +1,27 @@
 -- Searches of a right graph in memory that a limit may stop, and checks that it may.
-use Rattle.std.proofs.Common.{◌≡◌, ◌≢◌, ◌⊎◌, ℕ, zero, suc, ◌+◌, ◌^◌, ◌-◌, ◌<◌, ◌≤◌, min, List, [], ◌∷◌, ◌++◌, length, sym, ap}
-use Rattle.std.proofs.Common.{◌∙◌, subst, ⊎_elim, arith, length-append, Result, Ok, Err, IfErr}
+use Rattle.std.proofs.Common.{◌≡◌, ◌≢◌, ◌⊎◌, ◌↔◌, ℕ, zero, suc, ◌+◌, ◌^◌, ◌-◌, ◌<◌, ◌≤◌, min, List, [], ◌∷◌, ◌++◌, length, sym}
+use Rattle.std.proofs.Common.{ap, ◌∙◌, subst, ⊎_elim, arith, length-append, Result, Ok, Err, Bool, false, IsTrue}
 use Rattle.std.specs.Prelude.{⊤}
 use Rattle.std.specs.List.{range_with_len}
 use Rattle.std.proofs.lemmas.List.FromFn.{length-range_with_len}
+use Rattle.graph_walks.specs.Walks.{CountWalks, Reaches}
 use Rattle.graph_format.specs.Layer.{Layer}
 use Rattle.graph_format.specs.Points.{Accepts, Agrees, PassesAll, Point, StopsAtCall, call, calls, first_fault}
 use Rattle.graph_format.specs.StoredHistory.{history_of}
 use Rattle.graph_format.proofs.PointLemmas.{calls-append}
 use Rattle.gix_commitgraph.specs.Distinct.{IsDeservedWith}
 use Rattle.gix_commitgraph.specs.Graph.{total}
+use Rattle.gix_commitgraph.specs.Sound.{Sound}
 use Rattle.gix_commitgraph.specs.Verify.{points_with, cause_of}
 use Rattle.gix_commitgraph.specs.declared.verify.Outcome.{Outcome}
 use Rattle.gix_commitgraph.specs.declared.verify.VerifyError.{VerifyError}
 use Rattle.gix_commitgraph.specs.declared.verify.VerifyError.TheVariants as error
 use Rattle.gix_commitgraph.specs.declared.verify.VerifyOptions.{VerifyOptions}
-use Rattle.commit_search.specs.WalkAnswer.{MayLead}
+use Rattle.commit_search.specs.Cardinality.{AtMost}
+use Rattle.commit_search.specs.WalkAnswer.{IsAbove, LeadsWithin, MayLead}
 use Rattle.commit_search.specs.Source.{Told, told_of}
-use Rattle.graph_history.specs.Limits.{Bound, EndsEarly, IfSource, IsSource, MayBeStopped, MayRefuseWithin, StopsAfter}
+use Rattle.graph_history.specs.Limits.{Bound, EndsEarly, IfSource, IsSource, IsToldWithin, MayBeStopped, MayRefuseWithin}
+use Rattle.graph_history.specs.Limits.{StopsAfter}
 use Rattle.graph_history.specs.declared.limit.LimitError.{LimitError}
 use Rattle.graph_history.specs.declared.limit.LimitError.TheVariants as limited
 use Rattle.graph_history.specs.declared.limit.Stopped.{Stopped}
@@ -63,12 +67,24 @@ module _ (layers after : List Layer) (same : after ≡ layers) (from to : ℕ) w
     lead_ended limited.Stopped told = may
     lead_ended (limited.Source e) told = lead_error (Gives e) told
 
-    pub leads_ended : {T : Type 0} (r : Result T (LimitError E))
-        → IfErr r (λ e. (from ≢ to) × (IfSource (λ x. ⊥) e
-        ⊎ (IsSource Gives e × ((t : Told) → t ≡ told_of after → MayLead t.history from to))))
-        → IfErr r (EndsEarly bound most ((from ≢ to) × MayLead (history_of layers) from to))
-    leads_ended (Ok x) told = tt
-    leads_ended (Err e) told = lead_ended e told
+  -- what was found after so many visits
+  module _ (right : Sound layers) (found : Bool) (visits : ℕ)
+      (yes : (t : Told) → t ≡ told_of after → IsTrue found → LeadsWithin t.history from to visits) where
+    pub found_there : ((t : Told) → t ≡ told_of after → CountWalks t.history → Reaches t.history from to → IsTrue found)
+        → IsTrue found ↔ Reaches (history_of layers) from to
+    found_there not_there = (
+      (λ is. (let led = yes (told_of layers) (ap told_of (sym same)) is in (led.0, led.1))),
+      not_there (told_of layers) (ap told_of (sym same)) right.generations,
+    )
+
+    pub found_within : ((t : Told) → t ≡ told_of after → CountWalks t.history → found ≡ false
+        → AtMost visits (IsAbove t.history from to)) → (n : ℕ) → visits ≤ n → IsToldWithin n (history_of layers) from to found
+    found_within above n le = record {
+      yes = λ is. (let led = yes (told_of layers) (ap told_of (sym same)) is in (led.0, led.1, omega (arith, le, led.2)));
+      no = λ is ps apart all.
+          (let most = above (told_of layers) (ap told_of (sym same)) right.generations is ps apart all in
+          omega (arith, le, most));
+    }
 
 -- what ends a comparison before its end
 pub comparison_ended : {E : Type 0} (bound : Bound) (most : ℕ) → MayBeStopped bound most → (e : LimitError E)

@@ -1,5 +1,6 @@
 -- When a search or a check is stopped before its end.
-use Rattle.std.specs.Prelude.{◌≡◌, ◌⊎◌, ◌<◌, ◌≤◌, ℕ, List, Bool, Some, is_some, IsTrue, ⊤}
+use Rattle.std.specs.Prelude.{◌≡◌, ◌⊎◌, ◌<◌, ◌≤◌, ℕ, List, Bool, false, Some, is_some, IsTrue, ⊤}
+use Rattle.graph_walks.specs.History.{Node}
 use Rattle.graph_format.specs.Layer.{Layer}
 use Rattle.graph_format.specs.Points.{first_fault}
 use Rattle.gix_commitgraph.specs.Distinct.{IsSoundWith}
@@ -8,6 +9,8 @@ use Rattle.gix_commitgraph.specs.Verify.{points_with}
 use Rattle.gix_commitgraph.specs.declared.verify.VerifyError.{VerifyError}
 use Rattle.gix_commitgraph.specs.declared.verify.VerifyError.TheVariants as error
 use Rattle.gix_commitgraph.specs.declared.verify.VerifyOptions.{VerifyOptions}
+use Rattle.commit_search.specs.Cardinality.{AtMost}
+use Rattle.commit_search.specs.WalkAnswer.{IsAbove, LeadsWithin}
 use Rattle.graph_history.specs.declared.limit.Limit.{Limit}
 use Rattle.graph_history.specs.declared.limit.LimitError.{LimitError}
 use Rattle.graph_history.specs.declared.limit.LimitError.TheVariants as limited
@@ -33,6 +36,13 @@ MayBeStopped bound most = (bound.visits < most) ⊎ IsTrue bound.flagged
 abbrev pub EndsEarly : {E : Type 0} → Bound → ℕ → Type 0 → LimitError E → Type 0
 EndsEarly bound most P limited.Stopped = MayBeStopped bound most
 EndsEarly bound most P (limited.Source e) = P
+
+-- Whether a walk leads from one commit to another may be told once n commits were visited, by reading their parents.
+pub record IsToldWithin (n : ℕ) (history : List Node) (from to : ℕ) (found : Bool) : Type 0 where
+  -- a yes: some walk has at most n steps
+  pub yes : IsTrue found → LeadsWithin history from to n
+  -- a no: at most n commits that the first one reaches have a greater generation number than the other
+  pub no : found ≡ false → AtMost n (IsAbove history from to)
 
 -- the error of a source has a property, or there is none of it
 abbrev pub IfSource : {E : Type 0} → (E → Type 0) → LimitError E → Type 0

@@ -8,7 +8,8 @@ ghost use Rattle.gix_commitgraph.specs.Graph.{total};
 ghost use Rattle.commit_search.specs.WalkAnswer.{IsAnswer, MayLead};
 ghost use Rattle.commit_search.specs.Positions.{numbers_of};
 ghost use Rattle.graph_history.specs.GraphComparison.{IsComparisonOf};
-ghost use Rattle.graph_history.specs.Limits.{EndsEarly, IsSource, MayRefuseWithin, bound_of};
+ghost use Rattle.graph_history.specs.Limits.{EndsEarly, IsSource, IsToldWithin, MayRefuseWithin};
+ghost use Rattle.graph_history.specs.Limits.{bound_of};
 
 use crate::checked::Checked;
 use crate::limit::{Limit, LimitError, Stopped};
@@ -100,18 +101,45 @@ impl<'g> Checked<'g> {
         requires descendant { descendant.0 < total self.now.layers }
         ensures found { IfOk result (λ found.
             IsTrue found ↔ Reaches (history_of self.now.layers) descendant.0 ancestor.0) }
+        ensures within { IfOk result (IsToldWithin limit.entry.visits
+            (history_of self.now.layers) descendant.0 ancestor.0) }
         ensures refused { IfErr result (EndsEarly (bound_of limit.entry) (total self.now.layers)
             ((descendant.0 ≢ ancestor.0)
             × MayLead (history_of self.now.layers) descendant.0 ancestor.0)) }
     {
         if limit.allows(self.graph.num_commits() as u64) {
-            return match self.is_ancestor(alloc, ancestor, descendant) {
-                Ok(found) => Ok(found),
-                Err(error) => Err(LimitError::Source(error)),
-            };
+            return self.whole_search(alloc, ancestor, descendant);
         }
         let mut commits = Limited::new(InMemory::new(self.graph), limit);
-        FewSearcher::new(alloc).is_ancestor(&mut commits, ancestor, descendant)
+        match FewSearcher::new(alloc).is_ancestor_counted(&mut commits, ancestor, descendant) {
+            Ok((found, visits)) if visits as u64 <= limit.visits => Ok(found),
+            Ok(_) => Err(LimitError::Stopped),
+            Err(error) => Err(error),
+        }
+    }
+
+    /// What [`Checked::is_ancestor`] answers. The parents of no more commits are read than there
+    /// are.
+    fn whole_search(
+        &self,
+        alloc: Global,
+        ancestor: Position,
+        descendant: Position,
+    ) -> Result<bool, LimitError<AllocError>>
+        requires ancestor { ancestor.0 < total self.now.layers }
+        requires descendant { descendant.0 < total self.now.layers }
+        ensures found { IfOk result (λ found.
+            IsTrue found ↔ Reaches (history_of self.now.layers) descendant.0 ancestor.0) }
+        ensures within { IfOk result (IsToldWithin (total self.now.layers)
+            (history_of self.now.layers) descendant.0 ancestor.0) }
+        ensures refused { IfErr result (IsSource (λ _. (descendant.0 ≢ ancestor.0)
+            × MayLead (history_of self.now.layers) descendant.0 ancestor.0)) }
+    {
+        let mut whole = InMemory::new(self.graph);
+        match FewSearcher::new(alloc).is_ancestor_counted(&mut whole, ancestor, descendant) {
+            Ok((found, _)) => Ok(found),
+            Err(error) => Err(LimitError::Source(error)),
+        }
     }
 
     /// What [`Checked::compare`] answers, where no more commits are visited for it than the limit

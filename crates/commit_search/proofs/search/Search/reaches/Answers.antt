@@ -3,16 +3,17 @@ use Rattle.std.proofs.Common.{subst₂, ⊎_elim, eqb-true, eq-eqb, arith}
 use Rattle.std.proofs.lemmas.Bool.{false≢true}
 use Rattle.std.proofs.lemmas.List.{length_push}
 use Rattle.graph_walks.specs.History.{generation_at}
-use Rattle.graph_walks.specs.Walks.{Reaches}
+use Rattle.commit_search.specs.WalkAnswer.{IsAbove, LeadsWithin}
 use Rattle.commit_search.specs.Marks.{Marked}
 use Rattle.commit_search.specs.Queue.{commit_in}
 use Rattle.commit_search.specs.Search.{queued_by}
 use Rattle.commit_search.proofs.DescentLemmas.{places_begin, descent_begins, taken_within, places_go_on}
-use Rattle.commit_search.proofs.DescentLemmas.{descent_goes_on, descent_ends}
+use Rattle.commit_search.proofs.DescentLemmas.{descent_goes_on, descent_ends, descent_has_all, shallow_begins, shallow_goes_on}
 use Rattle.commit_search.proofs.QueueLemmas.{commit_extends}
+use Rattle.commit_search.proofs.QueryLemmas.{each_at_or_above}
 use Rattle.commit_search.proofs.SearchLemmas.{searching_begins, nothing_read, queue_told}
-use Rattle.commit_search.proofs.ShortestWalkLemmas.{queued_is_reached}
-use Rattle.commit_search.proofs.VisitLemmas.{length-queued}
+use Rattle.commit_search.proofs.ShortestWalkLemmas.{queued_is_led_to}
+use Rattle.commit_search.proofs.VisitLemmas.{length-queued, all_visited}
 use Rattle.commit_search.proofs.search.Search.reaches.Goals as goal
 
 pub loop-place-init : goal.loop-place-init
@@ -42,6 +43,8 @@ loop-place-init g c =
       some = omega (arith, one);
       first = ap (λ (xs : List Marked). commit_in xs 0) e.first;
       places = places_begin (queued_by s) stack one only first;
+      counted = omega (arith, one, c.in_ok-push_places.ensures.len, ap length c.clear.ensures.items);
+      shallow = shallow_begins (queued_by s) one;
       descent = λ t said. descent_begins (queued_by s) stack one only first t.history s.least c.args.to.0;
     }
 
@@ -51,6 +54,18 @@ commit_at-requires g c =
     taken_within (queued_by l.self) l.stack.items c.pop.new.self.items c.in-Some.place c.in-Some.ensures.items
     l.invariant.places
 
+pub returns-then-eq-clause-visits : goal.returns-then-eq-clause-visits
+returns-then-eq-clause-visits g c =
+    let inv = c.loop-place.invariant in
+    omega (arith, inv.counted, length-queued _ _ _ (queued_by c.loop-place.self) inv.search.queue)
+
+pub returns-then-eq-clause-once : goal.returns-then-eq-clause-once
+returns-then-eq-clause-once g c = λ t said.
+    let inv = c.loop-place.invariant in
+    each_at_or_above t.history c.loop-place.self.least c.args.from.0 c.args.to.0 (queued_by c.loop-place.self) c.loop-place.visits
+    (queue_told _ _ c.loop-place.self t said inv.search) inv.first
+    (omega (arith, inv.least, c.requires.least t (inv.kept t said))) (omega (arith, inv.counted))
+
 pub returns-then-eq-clause-yes : goal.returns-then-eq-clause-yes
 returns-then-eq-clause-yes g c = λ t said found.
     let l = c.loop-place in
@@ -58,9 +73,10 @@ returns-then-eq-clause-yes g c = λ t said found.
     let at = sym c.commit_at.ensures ∙ eqb-true c.commit_at.result.0 c.args.to.0 (sym c.if-eq.ensures) in
     let lt =
     taken_within (queued_by l.self) l.stack.items c.pop.new.self.items c.in-Some.place c.in-Some.ensures.items inv.places in
-    let reached =
-    queued_is_reached t.history l.self.least (queued_by l.self) (queue_told _ _ l.self t said inv.search) c.in-Some.place lt in
-    subst₂ (λ (p q : ℕ). Reaches t.history p q) inv.first at reached
+    let led =
+    queued_is_led_to t.history l.self.least (queued_by l.self) (queue_told _ _ l.self t said inv.search) c.in-Some.place l.visits
+    lt (λ d depth. inv.shallow c.in-Some.place d lt depth) in
+    subst₂ (λ (p q : ℕ). LeadsWithin t.history p q l.visits) inv.first at led
 
 pub overflow_cast-reached : goal.overflow_cast-reached
 overflow_cast-reached g c =
@@ -82,6 +98,20 @@ visit-requires-clause-place g c =
     let l = c.loop-place in
     taken_within (queued_by l.self) l.stack.items c.pop.new.self.items c.in-Some.place c.in-Some.ensures.items
     l.invariant.places
+
+pub overflow_add-visits : goal.overflow_add-visits
+overflow_add-visits g c =
+    let l = c.loop-place in
+    let inv = l.invariant in
+    let few = inv.search.few in
+    omega (
+      arith,
+      few,
+      inv.counted,
+      length-queued _ _ _ (queued_by l.self) inv.search.queue,
+      ap length c.in-Some.ensures.items,
+      length_push c.pop.new.self.items c.in-Some.place,
+    )
 
 pub overflow_cast-end : goal.overflow_cast-end
 overflow_cast-end g c =
@@ -139,6 +169,19 @@ loop-place-preserved g c =
       first = commit_extends (queued_by l.self) (queued_by s) c.in-Some.place 0 on.extends inv.some ∙ inv.first;
       places = places_go_on (queued_by l.self) (queued_by s) l.stack.items c.pop.new.self.items
           c.push_places-in-Some.new.stack.items c.in-Some.place c.in-Some.ensures.items inv.places on.extends only;
+      counted = omega (
+        arith,
+        inv.counted,
+        on.extends.longer,
+        c.len-reached.ensures,
+        c.len-end.ensures,
+        pushed.len,
+        ap length c.in-Some.ensures.items,
+        length_push c.pop.new.self.items c.in-Some.place,
+      );
+      shallow = shallow_goes_on (queued_by l.self) (queued_by s) c.in-Some.place on.extends inv.search.queue.earlier l.visits
+          (taken_within (queued_by l.self) l.stack.items c.pop.new.self.items c.in-Some.place c.in-Some.ensures.items inv.places)
+          inv.shallow;
       descent = λ t said. rw on.least
           (descent_goes_on t.history l.self.least c.args.to.0 (queued_by l.self) (queued_by s)
           l.stack.items c.pop.new.self.items c.push_places-in-Some.new.stack.items c.in-Some.place c.in-Some.ensures.items
@@ -146,6 +189,18 @@ loop-place-preserved g c =
           pushed.old
           (λ i from lt. pushed.new i (omega (arith, from, c.len-reached.ensures)) (omega (arith, lt, c.len-end.ensures))));
     }
+
+pub returns-clause-visits : goal.returns-clause-visits
+returns-clause-visits g c =
+    let inv = c.loop-place.invariant in
+    omega (arith, inv.counted, length-queued _ _ _ (queued_by c.loop-place.self) inv.search.queue)
+
+pub returns-clause-once : goal.returns-clause-once
+returns-clause-once g c = λ t said.
+    let inv = c.loop-place.invariant in
+    each_at_or_above t.history c.loop-place.self.least c.args.from.0 c.args.to.0 (queued_by c.loop-place.self) c.loop-place.visits
+    (queue_told _ _ c.loop-place.self t said inv.search) inv.first
+    (omega (arith, inv.least, c.requires.least t (inv.kept t said))) (omega (arith, inv.counted))
 
 pub returns-clause-no : goal.returns-clause-no
 returns-clause-no g c = λ t said right reaches.
@@ -156,4 +211,18 @@ returns-clause-no g c = λ t said right reaches.
     omega (arith, inv.least, c.requires.least t (inv.kept t said)) in
     let empty : length l.stack.items ≡ 0 = omega (arith, c.in_default.ensures.cases.0) in
     absurd (descent_ends t.history l.self.least c.args.from.0 c.args.to.0 (queued_by l.self) l.stack.items
-    (queue_told _ _ l.self t said inv.search) never_rises inv.some inv.first high (inv.descent t said) empty reaches)
+    (queue_told _ _ l.self t said inv.search) never_rises inv.some inv.first (inv.descent t said) empty high reaches)
+
+pub returns-clause-above : goal.returns-clause-above
+returns-clause-above g c = λ t said right no.
+    let l = c.loop-place in
+    let inv = l.invariant in
+    let never_rises = λ (p q : ℕ). c.generations_never_rise_along_walks.ensures t.history p q right in
+    let least : l.self.least ≡ generation_at t.history c.args.to.0 =
+    omega (arith, inv.least, c.requires.least t (inv.kept t said)) in
+    let empty : length l.stack.items ≡ 0 = omega (arith, c.in_default.ensures.cases.0) in
+    let queue = queue_told _ _ l.self t said inv.search in
+    all_visited _ _ _ (queued_by l.self) queue (IsAbove t.history c.args.from.0 c.args.to.0) l.visits
+    (omega (arith, inv.counted, empty)) (λ p above.
+    descent_has_all t.history l.self.least c.args.from.0 c.args.to.0 (queued_by l.self) l.stack.items queue never_rises inv.some
+    inv.first (inv.descent t said) empty p (let high = above.1 in omega (arith, least)) above.0)

@@ -2,7 +2,7 @@ use Rattle.std.proofs.Common.{◌≡◌, ◌+◌, ◌-◌, ◌<◌, length}
 use Rattle.commit_search.specs.Queue.{commit_in}
 use Rattle.commit_search.specs.Search.{queued_by, IsSearching, AreRead}
 use Rattle.commit_search.specs.Source.{Told}
-use Rattle.commit_search.proofs.DescentLemmas.{ArePlaces, IsDescent}
+use Rattle.commit_search.proofs.DescentLemmas.{ArePlaces, AreShallow, IsDescent}
 use Rattle.commit_search.proofs.search.Search.reaches.Given as goal
 
 abbrev pub invariant-loop-place : goal.invariant-loop-place
@@ -18,6 +18,8 @@ invariant-loop-place g l =
       some : 0 < length (queued_by l.self);
       first : commit_in (queued_by l.self) 0 ≡ l.fn.from.0;
       places : ArePlaces (queued_by l.self) l.stack.items;
+      counted : l.visits + length l.stack.items ≡ length (queued_by l.self);
+      shallow : AreShallow (queued_by l.self) l.visits;
       descent : (t : Told) → says t → IsDescent t.history l.self.least l.to.0 (queued_by l.self) l.stack.items;
     }
 
