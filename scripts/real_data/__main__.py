@@ -26,7 +26,7 @@ is still being built: its path comes as a line of standard input, and the checks
   ones by a plain reading, and beside what Git then answers of ancestors and of paths. Each filter has the bits of
   the paths that `git diff-tree` names and of the folders that lead there, and no others. Also of five commits in every
   order, by hand, and of thousands of graphs at random, most of them damaged, by the plain reading.
-- the filters of these graphs, asked by the program of `test_filters`: each path that a commit changes is possible, and
+- the filters of these graphs, asked by the program of `test_calls`: each path that a commit changes is possible, and
   all other answers are those of a plain reading; also of version 2, and where bytes were read as unsigned numbers.
 - `ids` and `objects`: right graphs and damaged ones beside the commits as Git writes them, by a plain reading, and beside
   Git's verdict; streams that are cut or changed at each byte; and commits that Git's own commands do not make. Also commits of all

@@ -13,9 +13,9 @@ use Rattle.show_commands.specs.Show.{MayShow, show_text, show_status}
 use Rattle.object_commands.specs.CommitIds.{MayListIds, ids_text, ids_status}
 use Rattle.object_commands.specs.ComparedObjects.{MayCompareObjects, objects_text, objects_status}
 use Rattle.question_commands.specs.Asking.{MayAsk, ask_text, ask_status}
-use Rattle.layer_refusals.specs.LayerAnswer.{written_text, written_status}
+use Rattle.write_commands.specs.LayerAnswer.{written_text, written_status}
 use Rattle.write_commands.specs.WrittenCommits.{MayWriteLayer}
-use Rattle.merge_commands.specs.MergedCommits.{MayMerge}
+use Rattle.write_commands.specs.MergedCommits.{MayMerge}
 use Rattle.history_commands.specs.Check.{MayFindInAll, check_text, check_status}
 use Rattle.history_commands.specs.IsAncestor.{IsTold, is_ancestor_text, is_ancestor_status}
 use Rattle.history_commands.specs.MergeBases.{MayCompare, merge_base_text, merge_base_ids_text, merge_base_status}

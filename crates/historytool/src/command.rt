@@ -18,7 +18,6 @@ use graph_folder::folder::Folder;
 use history_commands::run::{
     run_check, run_is_ancestor, run_merge_base, run_merge_base_ids, run_walk,
 };
-use merge_commands::run_merge;
 use object_commands::{PositionRange, run_ids, run_objects};
 use question_commands::asking::run_ask;
 use show_commands::run::run_show;
@@ -28,7 +27,7 @@ use unchecked_commands::ancestor::run_is_ancestor_unchecked;
 use unchecked_commands::bases::{run_merge_base_ids_unchecked, run_merge_base_unchecked};
 use unchecked_commands::walk::run_walk_unchecked;
 use unchecked_questions::trusting::run_ask_unchecked;
-use write_commands::run_write;
+use write_commands::{run_merge, run_write};
 
 /// What `historytool` is asked to do.
 #[derive(Clone, Copy, Debug)]

@@ -21,10 +21,10 @@ use Rattle.graph_objects.proofs.TakingLemmas.{of_known, at_end}
 use Rattle.graph_writer.specs.declared.commit.NewCommit.{NewCommit}
 use Rattle.write_commands.specs.NewEntries.{FindsCommit, IsNoCommit, IsNoCommitLine, IsReadFailure, MayStopAt, TakesCommit}
 use Rattle.write_commands.specs.NewStream.{BeginsWithHead, IsObjectLine, IsNewEntryError, IsReadCommit, kind_of_stream}
-use Rattle.layer_refusals.specs.declared.error.CommitsError.{CommitsError}
-use Rattle.layer_refusals.specs.declared.error.CommitsError.TheVariants.{Entry, Device, OutOfMemory}
-use Rattle.layer_refusals.specs.declared.error.NewEntryError.{NewEntryError}
-use Rattle.layer_refusals.specs.declared.error.NewEntryError.TheVariants as error
+use Rattle.write_commands.specs.declared.error.CommitsError.{CommitsError}
+use Rattle.write_commands.specs.declared.error.CommitsError.TheVariants.{Entry, Device, OutOfMemory}
+use Rattle.write_commands.specs.declared.error.NewEntryError.{NewEntryError}
+use Rattle.write_commands.specs.declared.error.NewEntryError.TheVariants as error
 
 -- no test of more than there is succeeds
 not_enough : (enough : Bool) (n m : ℕ) → (IsTrue enough ↔ (n < m)) → m ≤ n → enough ≡ false

@@ -14,8 +14,8 @@ use Rattle.graph_writer.specs.declared.commit.NewCommit.{NewCommit}
 use Rattle.write_commands.specs.NewEntries.{HasTaken, IsReadFailure, MayStopAt, TakesCommit}
 use Rattle.write_commands.specs.NewStream.{BeginsWithCommits, IsReadCommit, MayRefuseCommits, SaysCommits}
 use Rattle.write_commands.specs.NewStream.{entry_of_commit, kind_of_stream}
-use Rattle.layer_refusals.specs.declared.error.CommitsError.{CommitsError}
-use Rattle.layer_refusals.specs.declared.error.CommitsError.TheVariants.{Entry, Device, OutOfMemory}
+use Rattle.write_commands.specs.declared.error.CommitsError.{CommitsError}
+use Rattle.write_commands.specs.declared.error.CommitsError.TheVariants.{Entry, Device, OutOfMemory}
 
 says_push : (kind : Kind) (all : List (List ℕ)) (commits : List NewCommit) (contents : List ℕ) (commit : NewCommit)
     → AllZip (IsReadCommit kind) all commits → IsReadCommit kind contents commit

@@ -1,3 +1,10 @@
 pub mod NewStream
 pub mod NewEntries
+pub mod WriteRefusalLines
+pub mod LayerAnswer
 pub mod WrittenCommits
+pub mod GraphCommits
+pub mod CarriedFilters
+pub mod MergedCommits
+pub mod SameCommits
+pub mod MergeReasons

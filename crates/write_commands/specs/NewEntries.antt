@@ -12,10 +12,10 @@ use Rattle.commit_objects.specs.Object.{object_id_of}
 use Rattle.graph_writer.specs.declared.commit.NewCommit.{NewCommit}
 use Rattle.write_commands.specs.NewStream.{BeginsWithCommits, BeginsWithHead, IsObjectLine, IsNoObjectLine, IsNewEntryError}
 use Rattle.write_commands.specs.NewStream.{IsReadCommit}
-use Rattle.layer_refusals.specs.declared.error.CommitsError.{CommitsError}
-use Rattle.layer_refusals.specs.declared.error.CommitsError.TheVariants.{Entry, Device, OutOfMemory}
-use Rattle.layer_refusals.specs.declared.error.NewEntryError.{NewEntryError}
-use Rattle.layer_refusals.specs.declared.error.NewEntryError.TheVariants as error
+use Rattle.write_commands.specs.declared.error.CommitsError.{CommitsError}
+use Rattle.write_commands.specs.declared.error.CommitsError.TheVariants.{Entry, Device, OutOfMemory}
+use Rattle.write_commands.specs.declared.error.NewEntryError.{NewEntryError}
+use Rattle.write_commands.specs.declared.error.NewEntryError.TheVariants as error
 
 -- the entry of this commit was taken
 abbrev pub TakesCommit : Kind → NewCommit → Option (List ℕ) → Option (List ℕ) → Type 0

@@ -14,10 +14,10 @@ use Rattle.graph_objects.specs.BatchEntry.{BeginsWithEntry, IsLine, IsTail}
 use Rattle.graph_objects.specs.declared.heading.Heading.{Heading}
 use Rattle.graph_objects.specs.declared.heading.Heading.TheVariants as heading
 use Rattle.graph_writer.specs.declared.commit.NewCommit.{NewCommit}
-use Rattle.layer_refusals.specs.declared.error.CommitsError.{CommitsError}
-use Rattle.layer_refusals.specs.declared.error.CommitsError.TheVariants.{Entry, Device, OutOfMemory}
-use Rattle.layer_refusals.specs.declared.error.NewEntryError.{NewEntryError}
-use Rattle.layer_refusals.specs.declared.error.NewEntryError.TheVariants as error
+use Rattle.write_commands.specs.declared.error.CommitsError.{CommitsError}
+use Rattle.write_commands.specs.declared.error.CommitsError.TheVariants.{Entry, Device, OutOfMemory}
+use Rattle.write_commands.specs.declared.error.NewEntryError.{NewEntryError}
+use Rattle.write_commands.specs.declared.error.NewEntryError.TheVariants as error
 
 -- the kind of the ids of a stream: the one that is asked for; else SHA-256 where it begins with 64 digits, and else SHA-1
 abbrev pub kind_of_stream : Option Kind → List ℕ → Kind

@@ -11,8 +11,8 @@ use Rattle.graph_writer.specs.WritingRefusal.{MayRefuseWriting}
 use Rattle.graph_writer.specs.declared.commit.NewCommit.{NewCommit}
 use Rattle.history_commands.specs.Check.{MayRefuseToStart}
 use Rattle.write_commands.specs.NewStream.{MayRefuseCommits, SaysCommits}
-use Rattle.layer_refusals.specs.declared.refusal.LayerRefusal.{LayerRefusal}
-use Rattle.layer_refusals.specs.declared.refusal.LayerRefusal.TheVariants.{Graph, Stream, Commits}
+use Rattle.write_commands.specs.declared.refusal.LayerRefusal.{LayerRefusal}
+use Rattle.write_commands.specs.declared.refusal.LayerRefusal.TheVariants.{Graph, Stream, Commits}
 
 -- the kind of the ids of the graph below, if there is one
 abbrev pub kind_below : List Layer → Option Kind

@@ -6,11 +6,11 @@ ghost use Rattle.commit_objects.specs.Object.{object_id_of};
 ghost use Rattle.write_commands.specs.NewEntries.{IsNoCommit};
 ghost use Rattle.write_commands.specs.NewStream.{IsReadCommit};
 
+use crate::error::{CommitsError, NewEntryError};
 use commit_objects::{CommitObject, Parents, object_id};
 use gix_hash_core::{Kind, ObjectId};
 use graph_objects::line::spells;
 use graph_writer::NewCommit;
-use layer_refusals::{CommitsError, NewEntryError};
 use std::alloc::{AllocError, Global};
 
 /// The commit with these contents, if they are those of the id with these digits.

@@ -6,10 +6,10 @@ ghost use Rattle.graph_objects.specs.declared.heading.Heading.TheVariants as tol
 ghost use Rattle.write_commands.specs.NewEntries.{IsNoCommitLine};
 ghost use Rattle.write_commands.specs.NewStream.{IsObjectLine, kind_of_stream};
 
+use crate::error::NewEntryError;
 use gix_hash_core::Kind;
 use graph_objects::heading::Heading;
 use graph_objects::line::{are_digits, heading_of};
-use layer_refusals::NewEntryError;
 
 /// How many digits the longest id has.
 pub(crate) const MOST_DIGITS: usize = 64;

@@ -10,13 +10,13 @@ ghost use Rattle.write_commands.specs.NewEntries.{TakesCommit};
 ghost use Rattle.write_commands.specs.NewStream.{MayRefuseCommits, SaysCommits, kind_of_stream};
 
 use crate::commit::new_commit;
+use crate::error::{CommitsError, NewEntryError};
 use crate::line::{MOST_DIGITS, kind_in_front, size_in};
 use gix_hash_core::Kind;
 use graph_objects::ObjectsError;
 use graph_objects::buffer::Buffer;
 use graph_objects::line::{LINE, line_end};
 use graph_writer::NewCommit;
-use layer_refusals::{CommitsError, NewEntryError};
 use std::alloc::{AllocError, Global};
 use std::io::Read;
 

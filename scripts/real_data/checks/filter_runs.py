@@ -1,6 +1,6 @@
 """Checks changed-path filters that Git writes: their bits, and what they answer of paths, each beside `git diff-tree`.
 
-The crate's own answers come through the program of `test_filters`.
+The crate's own answers come through the program of `test_calls`.
 """
 
 import os

@@ -139,8 +139,8 @@ class HistoryProgram(AnyProgram):
 
 
 class FilterProgram(AnyProgram):
-    """The program of the crate `test_filters`."""
+    """The program of the crate `test_calls`."""
 
     def ask(self, layers, paths):
         """The answer about paths to files of layers, the lowest first."""
-        return self.run(*layers, input=b"".join(path.hex().encode() + b"\n" for path in paths))
+        return self.run("filters", *layers, input=b"".join(path.hex().encode() + b"\n" for path in paths))

@@ -64,7 +64,7 @@ JOINED = 600
 
 def check_all(programs, asker, results, folder):
     """The checks of all tables, and of long answers."""
-    paths = {"graphtool": programs[0].path, "historytool": programs[1].path, "test_filters": asker.path}
+    paths = {"graphtool": programs[0].path, "historytool": programs[1].path, "test_calls": asker.path}
     for name, files in TABLES.items():
         check_table(results, name, Place(os.path.join(folder, name), files(), paths))
     sizes = {path: len(content) for path, content in examples.listed().items() if path in examples.SIZES}

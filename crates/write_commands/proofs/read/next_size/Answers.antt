@@ -4,8 +4,8 @@ use Rattle.std.specs.Io.KnownBytes.{prepend_known}
 use Rattle.std.proofs.Transfers.{starts_with_length}
 use Rattle.graph_objects.specs.BatchEntry.{longest_line}
 use Rattle.write_commands.specs.NewEntries.{MayStopAt}
-use Rattle.layer_refusals.specs.declared.error.CommitsError.TheVariants.{Entry}
-use Rattle.layer_refusals.specs.declared.error.NewEntryError.TheVariants as error
+use Rattle.write_commands.specs.declared.error.CommitsError.TheVariants.{Entry}
+use Rattle.write_commands.specs.declared.error.NewEntryError.TheVariants as error
 use Rattle.write_commands.proofs.EntrySteps.{found_commit, no_line_stop, other_line_stop}
 use Rattle.write_commands.proofs.read.next_size.Goals as goal
 

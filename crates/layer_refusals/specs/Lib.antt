@@ -1,2 +1,0 @@
-pub mod WriteRefusalLines
-pub mod LayerAnswer

@@ -1,4 +1,0 @@
-pub mod SameSteps
-pub mod CarriedSteps
-pub mod PlainSteps
-pub mod ReasonSteps
