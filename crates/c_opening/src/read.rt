@@ -79,29 +79,8 @@ pub fn look_up(opened: &Opened, id: &[u8]) -> u32
     let Some(id) = oid::try_from_bytes(id) else {
         return NOWHERE;
     };
-    match opened.as_checked() {
-        Some(checked) => lookup_in_right(checked.graph(), id),
-        None => lookup_in(opened.graph(), id),
-    }
-}
-
-/// The position of an id in a graph that is right.
-fn lookup_in_right(graph: &Graph, id: oid<'_>) -> u32
-    requires { Sound graph.now }
-    ensures holds { result ≢ nowhere
-        → slice_get (graph_ids graph.now) result ≡ Some (oid_bytes id.entry) }
-    ensures scanned { told_position result ≡ scan (graph_ids graph.now) (oid_bytes id.entry) }
-{
     a_lookup_in_a_right_graph_is_a_scan();
-    lookup_in(graph, id)
-}
-
-/// The position of an id, as a number.
-fn lookup_in(graph: &Graph, id: oid<'_>) -> u32
-    ensures holds { result ≢ nowhere
-        → slice_get (graph_ids graph.now) result ≡ Some (oid_bytes id.entry) }
-    ensures found { FoundIn graph.now (oid_bytes id.entry) (told_position result) }
-{
+    let graph = opened.graph();
     number(graph, graph.lookup(id))
 }
 

@@ -2,6 +2,7 @@
 
 ghost use Rattle.std.specs.Prelude.{◌≡◌, ◌+◌, ◌^◌, ◌<◌, ◌≤◌, All, length, slice_get, option_map};
 ghost use Rattle.std.specs.Prelude.{Some, IfSome, drop, take};
+ghost use Rattle.gix_hash_core.specs.Kind.{id_len};
 ghost use Rattle.gix_hash_core.specs.Oid.{oid_bytes};
 ghost use Rattle.graph_layer.specs.Commit.{commit_layer, commit_pos, layer_and_position};
 ghost use Rattle.gix_commitgraph.specs.Graph.{IsGraph, graph_ids, graph_commits, start, stop};
@@ -15,6 +16,7 @@ use crate::file::{self, Commit, File};
 use crate::graph::Graph;
 use crate::iter::{GraphCommits, GraphIds};
 use gix_hash_core::{Kind, oid};
+use graph_layer::lookups::lookup_of_kind;
 
 /// Where an id was found: the layer, how many commits stand before it, and the position there.
 #[derive(Clone, Copy)]
@@ -100,12 +102,17 @@ impl Graph {
     /// A position that is answered always holds the id. Where in each layer the ids strictly ascend
     /// and the fan is exact, the answer is the least position that holds the id, and `None` only
     /// where none does. In a damaged file, an id that is there may be missed.
+    #[inline(always)]
     pub fn lookup(&self, id: oid<'_>) -> Option<Position>
         ensures found { FoundIn self.now (oid_bytes id.entry) (position_number result) }
         ensures holds { IfSome result (λ pos.
             slice_get (graph_ids self.now) pos.0 ≡ Some (oid_bytes id.entry)) }
     {
-        let found = self.find(id, self.files.len())?;
+        let layers = self.files.len();
+        let found = match id.kind() {
+            Kind::Sha1 => self.find(id, Kind::Sha1, layers),
+            Kind::Sha256 => self.find(id, Kind::Sha256, layers),
+        }?;
         Some(Position(found.start + found.pos.0))
     }
 
@@ -115,7 +122,7 @@ impl Graph {
         ensures holds { IfSome result (λ commit.
             slice_get (commit_layer commit).ids (commit_pos commit) ≡ Some (oid_bytes id.entry)) }
     {
-        let found = self.find(id, self.files.len())?;
+        let found = self.find(id, id.kind(), self.files.len())?;
         Some(found.file.commit_at(found.pos))
     }
 
@@ -159,9 +166,11 @@ impl Graph {
         (&self.files[layer], layer_pos)
     }
 
-    /// The first layer below this one that finds an id, and where.
+    /// The first layer below this one that finds an id of this kind, and where. It is compiled into
+    /// its callers: where these name the kind, the number of an id's bytes is a constant.
     #[inline(always)]
-    pub(crate) fn find(&self, id: oid<'_>, layer: usize) -> Option<LookupByIdResult<'_>>
+    pub(crate) fn find(&self, id: oid<'_>, kind: Kind, layer: usize) -> Option<LookupByIdResult<'_>>
+        requires kind { length (oid_bytes id) ≡ id_len kind }
         requires layer { layer ≤ length self.now }
         ensures found { FoundIn (take layer self.now) (oid_bytes id.entry)
             (option_map (λ f. f.start + f.pos.0) result) }
@@ -176,7 +185,7 @@ impl Graph {
     {
         for below in 0..layer {
             let file = &self.files[below];
-            if let Some(pos) = file.lookup(id) {
+            if let Some(pos) = lookup_of_kind(file, id, kind) {
                 let start = self.starts[below];
                 return Some(LookupByIdResult { file, start, pos });
             }

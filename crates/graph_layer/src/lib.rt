@@ -7,4 +7,5 @@ pub mod faults;
 pub mod fields;
 pub mod file;
 pub mod law;
+pub mod lookups;
 pub mod opening;

@@ -80,7 +80,7 @@ impl Graph {
         ensures { option_map (λ pos. pos.0) result
             ≡ scan (graph_ids (take layer self.now)) (oid_bytes id.entry) }
     {
-        let found = self.find(id, layer)?;
+        let found = self.find(id, id.kind(), layer)?;
         Some(Position(found.start + found.pos.0))
     }
 }

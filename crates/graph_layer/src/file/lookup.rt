@@ -9,7 +9,7 @@ ghost use Rattle.graph_format.specs.Lookup.{digits};
 
 use crate::file::compare::compare_ids;
 use crate::file::{File, Position};
-use gix_hash_core::oid;
+use gix_hash_core::{Kind, oid};
 use graph_format::fan::fan_at;
 use std::cmp::Ordering;
 
@@ -41,10 +41,26 @@ impl File {
             (bucket_size self.now.fan (slice_index (oid_bytes id.entry) 0)) }
         ensures least { OnSome result.0 (1 ≤ result.1) }
     {
+        match id.kind() {
+            Kind::Sha1 => self.lookup_of_kind(id, Kind::Sha1),
+            Kind::Sha256 => self.lookup_of_kind(id, Kind::Sha256),
+        }
+    }
+
+    /// The answer of `lookup_counted` for an id of this kind. It is compiled into its callers:
+    /// where these name the kind, the number of an id's bytes is a constant.
+    #[inline(always)]
+    pub(crate) fn lookup_of_kind(&self, id: oid<'_>, kind: Kind) -> (Option<Position>, u32)
+        requires { length (oid_bytes id) ≡ id_len kind }
+        ensures found { Found self.now (oid_bytes id.entry) (file_position_number result.0) }
+        ensures most { result.1 ≤ digits
+            (bucket_size self.now.fan (slice_index (oid_bytes id.entry) 0)) }
+        ensures least { OnSome result.0 (1 ≤ result.1) }
+    {
         let wanted = id.as_bytes();
-        let size = self.layout.kind.len_in_bytes();
+        let size = kind.len_in_bytes();
         let mut comparisons = 0;
-        if wanted.len() != size {
+        if self.layout.kind.len_in_bytes() != size {
             return (None, comparisons);
         }
         let (mut low, mut high) = self.bucket(wanted[0]);

@@ -1,7 +1,7 @@
 use Rattle.std.proofs.Common.{◌+◌, ◌-◌, ◌≤◌, length, slice_index}
 use Rattle.graph_format.specs.Lookup.{bucket_size, digits}
 use Rattle.graph_layer.proofs.LookupLemmas.{StandsWithin}
-use Rattle.graph_layer.proofs.file.File.lookup_counted.Given as goal
+use Rattle.graph_layer.proofs.file.File.lookup_of_kind.Given as goal
 
 abbrev pub invariant-loop-low : goal.invariant-loop-low
 invariant-loop-low l = record {

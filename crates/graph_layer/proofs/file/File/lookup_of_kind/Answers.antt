@@ -6,13 +6,13 @@ use Rattle.graph_format.proofs.DigitLemmas.{digits-enough, digits-lower}
 use Rattle.graph_layer.proofs.LookupLemmas.{stands_within-bucket, stands_within-lower, stands_within-upper, found-equal}
 use Rattle.graph_layer.proofs.LookupLemmas.{found-none, found-other_len}
 use Rattle.graph_format.proofs.LayoutLemmas.{view-kind}
-use Rattle.graph_layer.proofs.file.File.lookup_counted.Goals as goal
+use Rattle.graph_layer.proofs.file.File.lookup_of_kind.Goals as goal
 
-pub returns-then-wanted-size-clause-found : goal.returns-then-wanted-size-clause-found
-returns-then-wanted-size-clause-found c =
-    rw (← c.as_bytes-wanted.ensures.bytes) (found-other_len _ _ (view-other_len _ _ _ _ _ c.self.invariant.layout c.self.view_is
-    (λ same. c.if-wanted-size.true (same ∙ sym (ap id_len (view-kind _ _ _ _ c.self.invariant.layout c.self.view_is))
-    ∙ sym c.len_in_bytes-size.ensures))))
+pub returns-then-len_in_bytes-size-clause-found : goal.returns-then-len_in_bytes-size-clause-found
+returns-then-len_in_bytes-size-clause-found c =
+    found-other_len _ _ (view-other_len _ _ _ _ _ c.self.invariant.layout c.self.view_is (λ same. c.if-len_in_bytes-size.true
+    (c.len_in_bytes.ensures ∙ ap id_len (view-kind _ _ _ _ c.self.invariant.layout c.self.view_is) ∙ sym same ∙ c.requires
+    ∙ sym c.len_in_bytes-size.ensures)))
 
 pub loop-low-init : goal.loop-low-init
 loop-low-init c = record {
