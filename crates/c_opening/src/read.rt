@@ -8,7 +8,6 @@ ghost use Rattle.gix_hash_core.specs.Oid.{oid_bytes};
 ghost use Rattle.graph_format.specs.Lookup.{scan};
 ghost use Rattle.graph_layer.specs.Commit.{layer_and_position};
 ghost use Rattle.gix_commitgraph.specs.Graph.{graph_ids, total};
-ghost use Rattle.gix_commitgraph.specs.Sound.{Sound};
 ghost use Rattle.gix_commitgraph.specs.GraphLookup.{FoundIn, position_number};
 ghost use Rattle.c_opening.specs.Answers.{HasCommit, HasId, HasRecord};
 ghost use Rattle.c_opening.specs.Answers.{layers_of, nowhere, told_commit, told_position};
@@ -80,7 +79,15 @@ pub fn look_up(opened: &Opened, id: &[u8]) -> u32
         return NOWHERE;
     };
     a_lookup_in_a_right_graph_is_a_scan();
-    let graph = opened.graph();
+    lookup_in(opened.graph(), id)
+}
+
+/// The position of an id, as a number.
+fn lookup_in(graph: &Graph, id: oid<'_>) -> u32
+    ensures holds { result ≢ nowhere
+        → slice_get (graph_ids graph.now) result ≡ Some (oid_bytes id.entry) }
+    ensures found { FoundIn graph.now (oid_bytes id.entry) (told_position result) }
+{
     number(graph, graph.lookup(id))
 }
 
