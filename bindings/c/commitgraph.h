@@ -4,8 +4,8 @@
  * return, for all bytes of files and all numbers, if the caller keeps the rules here. Nothing checks that a caller does.
  *
  * Rules for all calls
- * - A pointer is valid for the length beside it. Beside a length of 0 it may be NULL: that is tested, since the proofs speak of
- *   pointers that are not null; no other pointer is. What a call writes does not overlap what it reads, and what it reads does
+ * - A pointer is valid for the length beside it. Beside a length of 0 it may be NULL (this is tested; the proofs speak of pointers
+ *   that are not null). No other pointer may be NULL. What a call writes does not overlap what it reads, and what it reads does
  *   not change until it returns (a mapped file can change: see cg_open).
  * - A cg_graph is CG_CLOSED, or a copy of what cg_open, cg_open_known, cg_open_checked, cg_check or cg_check_within wrote, and
  *   none of cg_close, cg_check and cg_check_within was yet given it. All copies are one graph. Nobody looks into it or changes it.
@@ -32,6 +32,7 @@
 #include <stdbool.h>
 #include <stddef.h>
 #include <stdint.h>
+#include <string.h>
 
 #ifdef __cplusplus
 extern "C" {
@@ -184,7 +185,7 @@ typedef struct cg_file { const uint8_t *bytes; size_t len; const uint8_t *path; 
  *   201 to 299          where the layers make no graph: of CG_GRAPH_HASH_MISMATCH `layer` is the first of another kind of hash
  *                       than the one below it;
  *   301 to 399          from cg_open_checked alone, where the check refuses the graph: the verdict has more;
- *   CG_OUT_OF_MEMORY    where nothing else is wrong: at `layer`, or where it is 0 perhaps later.
+ *   CG_OUT_OF_MEMORY    where nothing else is wrong. Memory ran out at `layer`; if that is 0, at that layer or at a later one.
  * `layer` is 0 elsewhere. The first refusal is told, in the order of the layers. */
 typedef struct cg_error { uint32_t code; uint64_t layer; } cg_error;
 
@@ -216,7 +217,7 @@ typedef struct cg_known {
  *   CG_PATH_NOT_UTF8          where the path is not UTF-8;
  *   CG_PATH_WANTED            where nothing is known of a path at which it has to be known what stands: the call is made again then;
  *   CG_OPEN_NOTHING_FOUND     where neither a file nor a folder is at the path: from CG_ANYTHING alone;
- *   CG_OPEN_NOT_OPENED        where a file that is to be read is not there, or CG_UNOPENED;
+ *   CG_OPEN_NOT_OPENED        where a file that is to be read is not there, or is CG_FOLDER or CG_UNOPENED;
  *   CG_OPEN_READ_FAILED       where it is CG_UNREAD;
  *   CG_OPEN_CHAIN_NOT_TEXT    where line `layer` of the chain file, counted from 0, is not UTF-8;
  *   101 to 199                where the file of `layer` is no layer;
@@ -224,18 +225,20 @@ typedef struct cg_known {
  *   CG_OUT_OF_MEMORY          where memory ran out, or a file that is to be read is CG_NO_MEMORY: no other file is tried then.
  * `layer` is 0 elsewhere. `length` is that of the path that is told: the one that is wanted, or that of the file that was not read
  * or is refused; from CG_OPEN_CHAIN_NOT_TEXT, and where the layers of a chain make no graph, that of the chain file. It is 0 where
- * there is none: from CG_OPEN_NOTHING_FOUND, and where memory ran out in the library. */
+ * none is told: on CG_OK, CG_PATH_NOT_UTF8 and CG_OPEN_NOTHING_FOUND, and where memory ran out in the library. */
 typedef struct cg_path_error { uint32_t code; uint64_t layer, length; } cg_path_error;
 
 /* Opens the graph at a path, as the programs do, of what the caller knows of paths: who has none of them learns by CG_PATH_WANTED
  * which one comes next, looks what stands there, adds it and asks again. `what` is one of cg_place:
  *   CG_FILE            the file at the path, as the only layer;
  *   CG_CHAIN_FOLDER    the layers that the lines of its file commit-graph-chain name;
- *   CG_INFO_FOLDER     in most repositories .git/objects/info: its file commit-graph, or where that is not opened the chain in its
- *                      folder commit-graphs. Where neither is, the error is that of the chain;
+ *   CG_INFO_FOLDER     in most repositories .git/objects/info: its file commit-graph; or, where that is not there, cannot be read
+ *                      or is no layer, the chain in its folder commit-graphs. Where neither is opened, the error is that of the
+ *                      chain: CG_FILE tells why the file is refused;
  *   CG_ANYTHING        and any other number: a file, a folder with a file commit-graph-chain, or an info folder.
- * A path that is wanted is none of those that are known, and what is known of the others does not say whether a graph is opened: of
- * a chain it is that of its chain file, or of the first layer that was not read, where those before it are layers. It begins with
+ * A path that is wanted is none of those that are known, and what is known of the others does not say whether a graph is opened. For
+ * a chain it is first that of the chain file, and then that of the first layer of which nothing is known, if all before it are
+ * layers. It begins with
  * the path that is asked for, and follows it after a slash; of the empty path it stands alone. So
  * who looks below a folder of their own may ask for the empty path, and the folder's need not be UTF-8. Of two that are known of
  * one path the first counts. What is known of paths that nothing asks for is not looked at: since the layers before a wanted one
@@ -248,9 +251,10 @@ cg_path_error cg_open_known(const char *path, size_t path_len, uint32_t what, co
                             char *file, size_t file_len, cg_graph *out);
 
 /* Opens the graph and checks it, as cg_verify does. *verdict is always written, and has the code of the error: on CG_OK the
- * statistics, and then `counts` is written as by cg_verify; on 301 to 399 the fault; elsewhere code and layer alone. Only such a
- * graph answers cg_ancestor_walk, cg_is_ancestor, cg_are_ancestors, cg_merge_bases, cg_merge_bases_of and cg_write, and those of these
- * that stop within a limit. The rest is as in cg_open. */
+ * statistics, and then `counts` is written as by cg_verify; on 301 to 399 the fault; elsewhere code and layer alone. Only a graph that
+ * this call, cg_check or cg_check_within handed out answers cg_ancestor_walk, cg_is_ancestor, cg_are_ancestors, cg_merge_bases and
+ * cg_merge_bases_of, and those of these that stop within a limit; and of the open ones only such a graph goes below a layer of
+ * cg_write. The rest is as in cg_open. */
 struct cg_verdict;
 struct cg_count;
 cg_error cg_open_checked(const cg_file *files, size_t count, bool distinct_ids, struct cg_verdict *verdict,
@@ -262,8 +266,8 @@ cg_error cg_open_checked(const cg_file *files, size_t count, bool distinct_ids, 
 uint32_t cg_check(cg_graph graph, bool distinct_ids, struct cg_verdict *verdict, struct cg_count *counts, size_t counts_len,
                   cg_graph *out);
 
-/* A flag that stops calls, or none. The rules for a cg_graph are those for it, with cg_flag_free for cg_close. A thread may raise it while
- * calls of others look at it. No call takes a function of the caller's in its place: the proofs could not speak of it. */
+/* A flag that stops calls, or none. It follows the rules for a cg_graph, with cg_flag_free in place of cg_close. A thread may raise it
+ * while calls of others look at it. No call takes a function of the caller's in its place: the proofs could not speak of it. */
 typedef struct cg_flag { const void *address; bool kept; } cg_flag;
 #if defined(__cplusplus) && __cplusplus >= 201103L
 #define CG_NO_FLAG (cg_flag{ NULL, false })
@@ -278,14 +282,16 @@ static inline cg_flag cg_no_flag() { cg_flag none = { NULL, false }; return none
  * was. */
 uint32_t cg_flag_new(cg_flag *out);
 
-/* Raises a flag, for good: calls that look at it stop, and so do later ones. Answers whether there was one. */
+/* Raises a flag, for good: calls that look at it stop, and so do later ones. A call that has no commit to visit does not look at it,
+ * and still answers. Answers whether there was one. */
 bool cg_flag_raise(cg_flag flag);
 
 /* Frees a flag, and answers whether there was one: false of CG_NO_FLAG, with which nothing is done. */
 bool cg_flag_free(cg_flag flag);
 
 /* When a call stops before its end: how many commits it may visit, and a flag, or CG_NO_FLAG, at which it looks before it reads the
- * parents of each, or goes on past each. A call that stops answers CG_STOPPED, and writes no more than where it is refused otherwise.
+ * parents of each, or goes on past each. A call that stops answers CG_STOPPED, and writes only what it writes when it is refused for
+ * another cause.
  * With UINT64_MAX and CG_NO_FLAG none stops. An answer that is given is that of the call without a limit. */
 typedef struct cg_limit { uint64_t visits; cg_flag flag; } cg_limit;
 
@@ -372,7 +378,7 @@ bool cg_commit_at(cg_graph graph, uint32_t pos, cg_commit *out);
  * 0 where `first` is none and for CG_CLOSED: min(answer, len) of them were written. */
 uint32_t cg_commits(cg_graph graph, uint32_t first, cg_commit *out, size_t len);
 
-/* The parents of a commit: so many as `count` can be decoded. `code` is
+/* The parents of a commit: `count` is how many can be decoded. `code` is
  *   CG_OK                  where these are all: always so in a graph that was found right;
  *   361 to 364             where the next one cannot be decoded;
  *   CG_NO_SUCH_POSITION    where the position is none; and CG_CLOSED_GRAPH. */
@@ -384,8 +390,8 @@ cg_parent_count cg_parents(cg_graph graph, uint32_t pos, uint32_t *out, size_t l
 
 /* Writes the same, and stops where the room ends: `count` is the number of parents that were written, and `code` is
  * CG_MORE_PARENTS where more come after them. Its cost is that of so many steps as there is room for: for the first parent
- * alone, room for one. Commits may share one long list of parents, so that the parents of all are many times as many as the
- * file has words. */
+ * alone, room for one. Many commits may share one long list of parents: cg_parents then goes over the list for each of them, and this
+ * call does not. */
 cg_parent_count cg_first_parents(cg_graph graph, uint32_t pos, uint32_t *out, size_t len);
 
 /* A commit's first parent: its position, or CG_NOWHERE with the code
@@ -394,8 +400,8 @@ cg_parent_count cg_first_parents(cg_graph graph, uint32_t pos, uint32_t *out, si
  *   CG_NO_SUCH_POSITION    where the position is none; and CG_CLOSED_GRAPH. */
 typedef struct cg_parent { uint32_t code, position; } cg_parent;
 
-/* The first parent of a commit. What the commit's record says of the others is not told: it is the fastest way along first
- * parents. */
+/* The first parent of a commit. What the commit's record says of the others is not told. It reads one record, and is the fastest way
+ * along first parents. */
 cg_parent cg_first_parent(cg_graph graph, uint32_t pos);
 
 /* Of how many commits a block tells, and how many parents they have. */
@@ -404,7 +410,10 @@ typedef struct cg_block { uint32_t commits; uint64_t length; } cg_block;
 /* The parents of the commits from `first` on: for each commit its answer, which is that of cg_parents, and the positions of
  * all, one commit's after another's. It ends where `answers` is full or no commit is left, and after a commit whose parents
  * find too little room. Only then `length` is above `len`: the parents of the last commit of the block are there in part, and
- * whoever goes on begins with that commit once more, in a larger room if it was the first. Of CG_CLOSED there are no commits. */
+ * whoever goes on begins with that commit once more, in a larger room if it was the first. Of CG_CLOSED there are no commits.
+ *
+ * The call goes over all parents of the commits of its block, for the last one also over those that find no room, to count them. So
+ * let there be room for many commits and their parents: where commits share a long list, a call for each goes over it each time. */
 cg_block cg_parents_from(cg_graph graph, uint32_t first, cg_parent_count *answers, size_t answers_len,
                          uint32_t *out, size_t len);
 
@@ -424,7 +433,7 @@ cg_block cg_parents_from(cg_graph graph, uint32_t first, cg_parent_count *answer
  *   CG_OUT_OF_MEMORY                memory ran out before the check was done; and CG_CLOSED_GRAPH.
  * What is not named is 0, but for `called`: the number of commits that the check passed before the fault, or of all on CG_OK.
  * To ask something of each commit during the check, go over this many commits in their order: what you refuse there comes before
- * the fault. It is 0 on CG_OUT_OF_MEMORY and CG_CLOSED_GRAPH, and where cg_open_checked refuses. */
+ * the fault. It is 0 on CG_OUT_OF_MEMORY and CG_CLOSED_GRAPH, and where cg_open_checked, cg_check or cg_check_within refuses or stops. */
 typedef struct cg_verdict {
     uint32_t code, num_commits, longest, has_longest;
     uint32_t position, other, called;
@@ -505,8 +514,9 @@ typedef struct cg_bases { uint32_t code, ahead, behind; uint64_t visits, length;
  * many as there is room for. */
 cg_bases cg_merge_bases(cg_graph graph, uint32_t first, const uint32_t *others, size_t count, uint32_t *out, size_t len);
 
-/* The same, unless the limit stops it, as cg_ancestor_walk_within; but CG_STOPPED may come up to three times as many visits as the graph
- * has commits, since those at the greatest generation number are visited again where more is found out about them. */
+/* The same, unless the limit stops it, as cg_ancestor_walk_within; but a limit of as many visits as the graph has commits may still stop
+ * it, since commits at the greatest generation number are visited again where more is found out about them. One of three times as many
+ * does not. */
 cg_bases cg_merge_bases_within(cg_graph graph, uint32_t first, const uint32_t *others, size_t count, cg_limit limit,
                                uint32_t *out, size_t len);
 
@@ -583,7 +593,7 @@ typedef struct cg_new_commit {
     uint64_t time;
 } cg_new_commit;
 
-/* Bytes that a call has made, or none. The rules for a cg_graph are those for it, with cg_bytes_free for cg_close. */
+/* Bytes that a call has made, or none. It follows the rules for a cg_graph, with cg_bytes_free in place of cg_close. */
 typedef struct cg_bytes { const void *address; bool kept; } cg_bytes;
 #if defined(__cplusplus) && __cplusplus >= 201103L
 #define CG_NO_BYTES (cg_bytes{ NULL, false })
@@ -647,7 +657,7 @@ static inline const char *cg_strerror(uint32_t code) {
     case CG_CLOSED_GRAPH: return "no graph is open";
     case CG_NOT_CHECKED: return "no check has found the graph right";
     case CG_NO_SUCH_POSITION: return "the graph has no such position";
-    case CG_PATH_NOT_UTF8: return "the path of a layer is not UTF-8";
+    case CG_PATH_NOT_UTF8: return "a path is not UTF-8";
     case CG_NO_DATES: return "a layer has no corrected dates";
     case CG_MORE_PARENTS: return "the commit has more parents than there is room for";
     case CG_PATH_WANTED: return "it has to be known what stands at one more path";
@@ -737,8 +747,8 @@ static inline const char *cg_strerror(uint32_t code) {
     }
 }
 
-/* What to do about it, with the commands to type, in the words of docs/REFUSALS.md; "" where it says nothing. A commit-graph is written
- * anew by commands that are typed at the top of its repository. */
+/* What to do about it, with the commands to type, in the words of docs/REFUSALS.md; "" where it says nothing, and for a number that is
+ * not known. A commit-graph is written anew by commands that are typed at the top of its repository. */
 static inline const char *cg_advice(uint32_t code) {
 #define CG_ANEW "remove `.git/objects/info/commit-graph` and the folder `.git/objects/info/commit-graphs`, " \
                 "and then run `git commit-graph write --reachable`"
@@ -775,7 +785,9 @@ static inline const char *cg_advice(uint32_t code) {
     case CG_WRITE_NOTHING: return "see whether `git rev-list --all` lists any";
     case CG_WRITE_NO_IDS: return "hand in whole ids";
     case CG_WRITE_TOO_MANY_LAYERS: return "write the chain anew as one file";
-    default: return code >= CG_OPEN_CHAIN_NOT_TEXT && code < CG_WRITE_KIND ? CG_ANEW : "";
+    default:
+        if (strcmp(cg_strerror(code), cg_strerror(0xffffffffu)) == 0) return "";
+        return code >= CG_OPEN_CHAIN_NOT_TEXT && code < CG_WRITE_KIND ? CG_ANEW : "";
     }
 #undef CG_ANEW
 }

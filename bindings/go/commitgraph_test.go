@@ -289,6 +289,10 @@ func TestPaths(t *testing.T) {
 	if length(below) != whole {
 		t.Error("a folder whose path is no text")
 	}
+	misnamed := filepath.Join(below, "graph-"+strings.Repeat("0", 40)+".graph")
+	write(misnamed, low)
+	_, err = Open(misnamed, false)
+	r.refused(err, 342, 0, 0)
 	write(file, []byte("CGPH"))
 	_, err = Open(r.info, false)
 	r.refused(err, 101, 0, 0)

@@ -127,7 +127,7 @@ SENTENCES = {
     Code.CLOSED_GRAPH: "no graph is open",
     Code.NOT_CHECKED: "no check has found the graph right",
     Code.NO_SUCH_POSITION: "the graph has no such position",
-    Code.PATH_NOT_UTF8: "the path of a layer is not UTF-8",
+    Code.PATH_NOT_UTF8: "a path is not UTF-8",
     Code.NO_DATES: "a layer has no corrected dates",
     Code.MORE_PARENTS: "the commit has more parents than there is room for",
     Code.PATH_WANTED: "it has to be known what stands at one more path",
@@ -271,18 +271,20 @@ class Error(Exception):
     of a commit that was handed in, and `other`, as in commitgraph.h. `advice` says what to do, with the commands to type."""
 
     def __init__(
-        self, code: int, layer: int = 0, position: int = 0, path: str = "", number: int = 0, other: int = 0, commit: bytes = b""
+        self, code: int, layer: int = 0, position: int = 0, path: str = "", number: int | None = None, other: int = 0, commit: bytes = b""
     ) -> None:
         self.code, self.layer, self.position, self.path = Code(code), layer, position, path
-        self.number, self.other, self.commit, self.advice = number, other, commit, _advice(code)
-        super().__init__(self._said())
+        self.number, self.other, self.commit, self.advice = number or 0, other, commit, _advice(code)
+        super().__init__(self._said(number is not None))
 
-    def _said(self) -> str:
+    def _said(self, is_numbered: bool) -> str:
         said = (self.path + ": " if self.path else "") + SENTENCES[self.code]
         if self.code == Code.OPEN_CHAIN_NOT_TEXT:
             said += f": line {self.layer}, counted from 0"
         elif Code.WRITE_KIND <= self.code <= Code.WRITE_CYCLE or self.code == Code.WRITE_NO_IDS:
             said += f": commit {self.number} of those that were handed in, counted from 0"
+        elif self.code == Code.NO_SUCH_POSITION and is_numbered:
+            said += f": number {self.number} of those asked, counted from 0"
         elif self.commit:
             said += f"; the commit at position {self.position} is {self.commit.hex()}"
         return said + ("; what to do: " + self.advice if self.advice else "")
@@ -573,7 +575,7 @@ class Graph:
         """What its record says."""
         commit = _Commit()
         if not _library.cg_commit_at(self._graph, _place(position), commit):
-            raise Error(Code.NO_SUCH_POSITION, position=position)
+            raise self._none_at(position)
         return Record(commit.time, commit.generation)
 
     def parents(self, position: int) -> list[int]:
@@ -635,8 +637,12 @@ class Graph:
         size = _library.cg_id_len(self._graph)
         out = (c_uint8 * (size + 1))()
         if call(self._graph, _place(position), out, size) == 0:
-            raise Error(Code.NO_SUCH_POSITION, position=position)
+            raise self._none_at(position)
         return bytes(out[:size])
+
+    def _none_at(self, position: int) -> Error:
+        """Why a call that tells no code has nothing to tell of a position."""
+        return Error(Code.NO_SUCH_POSITION if self._graph.opened else Code.CLOSED_GRAPH, position=position)
 
 
 def _files(layers: Sequence[tuple[bytes, str]]) -> "tuple[ctypes.Array[_File], object]":
@@ -800,6 +806,15 @@ def _is_text(name: bytes) -> bool:
     return True
 
 
+def _root_and_asked(path: bytes) -> tuple[bytes, bytes]:
+    """The folder from which on the library is asked for paths, and the path that it is asked for, which has to be text: the name of a
+    layer's file, which the check compares with the checksum, stands in it also where the folder is no text."""
+    folder, name = os.path.split(path)
+    if _is_text(path):
+        return b"", path
+    return (folder, name) if name and _is_text(name) else (path, b"")
+
+
 def _opened(root: bytes, asked: bytes, place: int, known: list[_Standing]) -> _Graph:
     """The graph at a path, by as many calls as there are paths of which the library has to know. They begin at the root."""
     room = ctypes.create_string_buffer(4096)
@@ -857,9 +872,7 @@ def open(
 
     OSError is raised where a file cannot be read, and Error where the graph is refused. Where the chain of an info folder cannot
     be read, it is the refusal of the folder's file, if it has one."""
-    root, asked = b"", os.fsencode(path)
-    if not _is_text(asked):
-        root, asked = asked, b""
+    root, asked = _root_and_asked(os.fsencode(path))
     known: list[_Standing] = []
     try:
         opened = _opened(root, asked, ANYTHING, known)

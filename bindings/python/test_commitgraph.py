@@ -67,6 +67,8 @@ class OverGit(unittest.TestCase):
         for none in (len(graph), -1, 2**32, -(2**32)):
             for refused in (lambda: graph.ids([0, none]), lambda: graph.compare_all([(0, 0), (0, none)])):
                 self.refused(Code.NO_SUCH_POSITION, refused, number=1)
+                with self.assertRaisesRegex(Error, "number 1 of those asked"):
+                    refused()
             for call in (graph.id, graph.tree, graph.record, graph.parents):
                 self.refused(Code.NO_SUCH_POSITION, lambda: call(none), position=none)
             self.refused(Code.NO_SUCH_POSITION, lambda: graph.is_ancestor(0, none))
@@ -116,6 +118,8 @@ class OverGit(unittest.TestCase):
         self.refused(Code.WRITE_BELOW, lambda: below.write_layer(told), number=first, position=place)
         below.close()
         self.refused(Code.CLOSED_GRAPH, lambda: below.write_layer(own))
+        for call in (below.id, below.tree, below.record):
+            self.refused(Code.CLOSED_GRAPH, lambda: call(0))
 
     def test_commits_that_are_refused(self) -> None:
         one, two = NewCommit(b"\1" * 20, b"\1" * 20, [], 5), NewCommit(b"\2" * 20, b"\1" * 20, [b"\1" * 20], 5)
@@ -159,7 +163,8 @@ class OverGit(unittest.TestCase):
             file.write_bytes(data)
             self.assertEqual(len(commitgraph.open(self.info)), whole)
         low = chain / f"graph-{lines.split()[0].decode()}.graph"
-        file.write_bytes(low.read_bytes())
+        lowest = low.read_bytes()
+        file.write_bytes(lowest)
         self.assertLess(len(commitgraph.open(self.info)), whole)
         file.write_bytes(low.read_bytes()[:-1] + b"\7")
         self.refused(Code.CHECK_CHECKSUM, lambda: commitgraph.open(self.info))
@@ -181,6 +186,9 @@ class OverGit(unittest.TestCase):
         (pathlib.Path(os.fsdecode(named)) / "commit-graphs/commit-graph-chain").unlink()
         (pathlib.Path(os.fsdecode(named)) / "commit-graph").write_bytes(b"CGPH")
         self.refused(Code.FILE_TOO_SHORT, lambda: commitgraph.open(os.fsdecode(named)))
+        misnamed = os.fsdecode(named + b"/graph-" + b"0" * 40 + b".graph")
+        pathlib.Path(misnamed).write_bytes(lowest)
+        self.refused(Code.CHECK_FILE_NAME, lambda: commitgraph.open(misnamed))
 
     def test_limits(self) -> None:
         """Within as many commits as there are all is answered; within none, and after a flag was raised, it is stopped."""

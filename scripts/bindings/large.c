@@ -34,6 +34,12 @@ static void put(FILE *file, const void *items, size_t count, size_t size) {
 
 static void agree(bool good) { if (!good) exit(9); }
 
+/* Of a number that is not known nothing is advised. */
+static void advise_of_known_numbers(void) {
+    for (uint32_t code = 0; code < 1000; code++)
+        agree(strcmp(cg_strerror(code), cg_strerror(UINT32_MAX)) != 0 || *cg_advice(code) == 0);
+}
+
 static void print_verdict(cg_verdict v, const cg_count *counts) {
     PRINT("verdict", v.code, v.num_commits, v.longest, N(v.has_longest), v.position, v.other, v.called, v.layer, v.index,
           v.kinds);
@@ -285,6 +291,7 @@ int main(int argc, char **argv) {
     file.len = len;
     cg_graph graph = CG_CLOSED, checked = CG_CLOSED;
     agree(cg_version() == CG_VERSION);
+    advise_of_known_numbers();
     cg_verdict verdict = { .code = 0 };
     cg_count counts[KINDS];
     cg_error error = cg_open(&file, 1, &graph);

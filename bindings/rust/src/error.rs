@@ -72,6 +72,7 @@ impl OpenError {
         match self {
             OpenError::Io { error, .. } if error.raw_os_error() == Some(READ_FAILED) => advice::READ_FAILED,
             OpenError::Io { .. } => advice::NOT_OPENED,
+            OpenError::Neither { file, chain } if file.is_io() && chain.is_io() => chain.advice(),
             OpenError::Graph { error: GraphError::TooManyCommits, .. } => advice::TOO_MANY_COMMITS,
             OpenError::ChainLine { .. } | OpenError::Layer { .. } | OpenError::Graph { .. } | OpenError::Neither { .. } => advice::ANEW,
             OpenError::Check(error) => error.advice(),
@@ -83,6 +84,11 @@ impl OpenError {
     /// Whether an info folder's chain is not tried after this error of its file.
     pub(crate) fn is_settled(&self) -> bool {
         matches!(self, OpenError::Check(_) | OpenError::OutOfMemory)
+    }
+
+    /// Whether a file could not be read.
+    fn is_io(&self) -> bool {
+        matches!(self, OpenError::Io { .. })
     }
 
     /// Whether a file is not there, or what should be its folder is none.
@@ -461,11 +467,11 @@ impl From<TryReserveError> for QueryError {
     }
 }
 
-/// Why many pairs were not all answered.
+/// Why many questions, of pairs or of positions, were not all answered.
 #[derive(Clone, Copy, Debug, PartialEq, Eq)]
 #[non_exhaustive]
 pub struct PairError {
-    /// The pair, counted from 0, that has no answer. Those before it have one.
+    /// The number of the question, counted from 0, that has no answer. Those before it have one.
     pub index: usize,
     /// Why it has none.
     pub error: QueryError,
@@ -473,7 +479,7 @@ pub struct PairError {
 
 impl fmt::Display for PairError {
     fn fmt(&self, f: &mut fmt::Formatter<'_>) -> fmt::Result {
-        write!(f, "pair {} has no answer", self.index)
+        write!(f, "number {} of those asked, counted from 0, has no answer", self.index)
     }
 }
 
@@ -670,7 +676,7 @@ impl fmt::Display for ProbeError {
                 "layer {layer}: the version or number of hashes is not that of the lowest layer with filters"
             ),
             ProbeError::NoSuchPosition { index } => {
-                write!(f, "the graph has no such position as that of number {index}")
+                write!(f, "number {index} of the positions asked about, counted from 0, is none of the graph's")
             }
             ProbeError::OutOfMemory => f.write_str(OUT_OF_MEMORY),
         }

@@ -3,6 +3,9 @@
 //! What is proved stands behind `extern "C"`; this crate is not proved. It keeps the rules of `commitgraph.h` by Rust's
 //! types: a [`Graph`] owns its handle and closes it once, what is read borrows it, and each slice is passed whole.
 //!
+//! Where memory runs out, calls answer so. But where there is none for a path, for the list of a graph's layers or for the counts of an
+//! [`Outcome`], some bytes each, the program aborts, as `std` has it.
+//!
 //! ```no_run
 //! let checked = commitgraph::Checked::at(".git/objects/info")?;
 //! for commit in checked.graph().iter_commits() {
@@ -108,7 +111,7 @@ impl Graph {
     }
 
     /// Opens the graph of an info folder: its file `commit-graph`, or where that is not there or is refused, the chain in its
-    /// folder `commit-graphs`.
+    /// folder `commit-graphs`; but not where memory ran out.
     pub fn from_info_dir(path: impl AsRef<Path>) -> Result<Graph, OpenError> {
         open(path.as_ref(), Place::InfoFolder)
     }

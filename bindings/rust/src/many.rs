@@ -3,7 +3,6 @@
 use crate::checked::Comparison;
 use crate::room::{collected, reserved, room_for};
 use crate::{codes, sys, Checked, Graph, ObjectId, PairError, Position, QueryError};
-use std::collections::TryReserveError;
 
 impl Graph {
     /// The positions of many ids, as [`Graph::lookup`] answers for one.
@@ -11,7 +10,7 @@ impl Graph {
     /// # Errors
     ///
     /// Memory ran out.
-    pub fn lookup_all(&self, ids: &[ObjectId]) -> Result<Vec<Option<Position>>, TryReserveError> {
+    pub fn lookup_all(&self, ids: &[ObjectId]) -> Result<Vec<Option<Position>>, QueryError> {
         let mut bytes = reserved(ids.len() * self.id_len)?;
         // An id of another length is in no place: that of the null id.
         for id in ids {
@@ -23,7 +22,7 @@ impl Graph {
         let place = |(id, pos): (&ObjectId, u32)| {
             (pos != u32::MAX && id.as_bytes().len() == self.id_len).then_some(Position(pos))
         };
-        collected(ids.iter().zip(out).map(place))
+        Ok(collected(ids.iter().zip(out).map(place))?)
     }
 
     /// The ids at many positions.

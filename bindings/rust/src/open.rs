@@ -18,7 +18,7 @@ pub enum Place {
     File = 1,
     /// A folder with a chain.
     ChainFolder = 2,
-    /// An info folder: its file, or where that is not there or is refused, the chain in it.
+    /// An info folder: its file, or where that is not there or is refused, the chain in it; but not where memory ran out.
     InfoFolder = 3,
 }
 
@@ -85,10 +85,19 @@ fn files_of(known: Vec<Known>, root: &Path, asked: &[u8]) -> Result<Vec<LayerFil
 const FILE: &[u8] = b"commit-graph";
 const CHAIN_FILE: &[u8] = b"commit-graph-chain";
 
-/// Opens what stands at a path, by as many calls as there are paths that the library asks for. A path that is no text is the root
-/// of those.
+/// The folder from which on the library is asked for paths, and the path that it is asked for, which has to be text: the name of a
+/// layer's file, which the check compares with the checksum, stands in it also where the folder is no text.
+fn root_and_asked(path: &Path) -> (&Path, &str) {
+    match (path.to_str(), path.parent(), path.file_name().and_then(OsStr::to_str)) {
+        (Some(text), ..) => (Path::new(""), text),
+        (None, Some(folder), Some(name)) => (folder, name),
+        _ => (path, ""),
+    }
+}
+
+/// Opens what stands at a path, by as many calls as there are paths that the library asks for.
 fn open_alone(path: &Path, place: Place) -> Result<(Graph, Vec<LayerFile>), OpenError> {
-    let (root, asked) = path.to_str().map_or((path, ""), |text| (Path::new(""), text));
+    let (root, asked) = root_and_asked(path);
     let mut known: Vec<Known> = Vec::new();
     loop {
         let mut raw = sys::CLOSED;

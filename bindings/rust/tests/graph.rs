@@ -318,6 +318,15 @@ fn a_path_need_not_be_utf_8() {
 }
 
 #[test]
+fn a_file_below_a_folder_that_is_no_text_is_held_against_its_name() {
+    let path = folder(OsStr::from_bytes(b"named\xff")).join(format!("graph-{}.graph", "0".repeat(40)));
+    fs::copy(&made().file, &path).unwrap();
+    let error = Checked::at(&path).unwrap_err();
+    let is_name = |error: &CheckError| matches!(error.fault, Fault::Layer { layer: 0, fault: LayerFault::FileName });
+    assert!(matches!(&error, OpenError::Check(error) if is_name(error) && error.path == path), "{error}");
+}
+
+#[test]
 fn neither_refusal_of_an_info_folder_hides_the_other() {
     let folder = folder("refused");
     let opened = || Graph::from_info_dir(&folder).unwrap_err();
@@ -335,6 +344,9 @@ fn neither_refusal_of_an_info_folder_hides_the_other() {
     assert_eq!(error.to_string().matches("what to do: ").count(), 1);
     fs::remove_file(folder.join("commit-graph")).unwrap();
     assert!(matches!(opened(), OpenError::Graph { error: GraphError::NoFiles, .. }));
+    // What neither path leads to is not there to be removed.
+    let error = Graph::from_info_dir(folder.join("n".repeat(300))).unwrap_err();
+    assert!(error.advice().contains("check permissions") && !error.advice().starts_with("remove"), "{error}");
 }
 
 #[test]

@@ -63,6 +63,7 @@ fn each_layer_of_a_chain_is_as_git_writes_it() {
 }
 
 #[test]
+#[allow(clippy::type_complexity)]
 fn each_refusal_names_its_commit() {
     let below = Checked::from_file(&made().file, Default::default()).unwrap();
     let first = below.graph().id_at(Position(0));

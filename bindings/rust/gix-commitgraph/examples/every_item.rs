@@ -53,6 +53,7 @@ fn signatures() {
 /// What any thread may have, and many at a time.
 fn shared<T: Send + Sync>() {}
 
+#[allow(clippy::type_complexity)]
 fn answers_of_paths<E: Debug>(_: [fn(&Path) -> Result<Graph, E>; 4]) {}
 
 /// The lines of `graphtool list`; what cannot be decoded of parents is `!`.
@@ -120,6 +121,7 @@ fn find(path: &Path, id: &str) -> Answer {
 }
 
 /// Whether each opener opens a path, and how many commits it finds.
+#[allow(clippy::unnecessary_to_owned)]
 fn openers(path: &Path) -> String {
     let openers = [Graph::at, Graph::from_file, Graph::from_info_dir, Graph::from_commit_graphs_dir, |path: &Path| path.try_into()];
     let mut lines: String = openers.iter().map(|open| told(open(path))).collect();
