@@ -1,6 +1,6 @@
 //! How ids compare.
 
-ghost use Rattle.std.specs.Prelude.{◌≡◌, ℕ, ◌<◌, ◌≤◌, drop, length, slice_index};
+ghost use Rattle.std.specs.Prelude.{◌≡◌, ℕ, ◌<◌, ◌≤◌, length, slice_index};
 ghost use Rattle.std.specs.Ordering.{nat_cmp};
 ghost use Rattle.std.specs.Cmp.Lexicographic.{slice_cmp};
 
@@ -23,18 +23,6 @@ pub fn compare_ids(one: &[u8], other: &[u8]) -> Ordering
     } else if second < first {
         Ordering::Greater
     } else {
-        compare_rests(one, other)
+        one[8..].cmp(&&other[8..])
     }
-}
-
-/// How two ids compare past their first eight bytes. It has code of its own, so that a loop that
-/// compares ids keeps its numbers in registers.
-#[cold]
-#[inline(never)]
-fn compare_rests(one: &[u8], other: &[u8]) -> Ordering
-    requires one { 8 ≤ length one.now }
-    requires other { 8 ≤ length other.now }
-    ensures { result ≡ slice_cmp nat_cmp (drop 8 one.now) (drop 8 other.now) }
-{
-    one[8..].cmp(&&other[8..])
 }
