@@ -234,14 +234,13 @@ typedef struct cg_path_error { uint32_t code; uint64_t layer, length; } cg_path_
  *   CG_CHAIN_FOLDER    the layers that the lines of its file commit-graph-chain name;
  *   CG_INFO_FOLDER     in most repositories .git/objects/info: its file commit-graph; or, where that is not there, cannot be read
  *                      or is no layer, the chain in its folder commit-graphs. Where neither is opened, the error is that of the
- *                      chain: CG_FILE tells why the file is refused;
+ *                      chain; a call with CG_FILE tells why the file is refused;
  *   CG_ANYTHING        and any other number: a file, a folder with a file commit-graph-chain, or an info folder.
  * A path that is wanted is none of those that are known, and what is known of the others does not say whether a graph is opened. For
  * a chain it is first that of the chain file, and then that of the first layer of which nothing is known, if all before it are
- * layers. It begins with
- * the path that is asked for, and follows it after a slash; of the empty path it stands alone. So
- * who looks below a folder of their own may ask for the empty path, and the folder's need not be UTF-8. Of two that are known of
- * one path the first counts. What is known of paths that nothing asks for is not looked at: since the layers before a wanted one
+ * layers. It begins with the path that is asked for, and follows it after a slash; of the empty path it stands alone. So who looks
+ * below a folder of their own may ask for the empty path, and the folder's need not be UTF-8. Of two that are known of one path the
+ * first counts. What is known of paths that nothing asks for is not looked at: since the layers before a wanted one
  * are opened at each call, a caller does well to add all layers of a chain at once (cg_chain_line).
  *
  * On CG_OK *out is the graph of the bytes that were handed in. It is the caller's to close, and no check has seen it:
@@ -253,8 +252,8 @@ cg_path_error cg_open_known(const char *path, size_t path_len, uint32_t what, co
 /* Opens the graph and checks it, as cg_verify does. *verdict is always written, and has the code of the error: on CG_OK the
  * statistics, and then `counts` is written as by cg_verify; on 301 to 399 the fault; elsewhere code and layer alone. Only a graph that
  * this call, cg_check or cg_check_within handed out answers cg_ancestor_walk, cg_is_ancestor, cg_are_ancestors, cg_merge_bases and
- * cg_merge_bases_of, and those of these that stop within a limit; and of the open ones only such a graph goes below a layer of
- * cg_write. The rest is as in cg_open. */
+ * cg_merge_bases_of, and those of these that stop within a limit. cg_write takes such a graph, or CG_CLOSED. The rest is as in
+ * cg_open. */
 struct cg_verdict;
 struct cg_count;
 cg_error cg_open_checked(const cg_file *files, size_t count, bool distinct_ids, struct cg_verdict *verdict,
@@ -291,8 +290,7 @@ bool cg_flag_free(cg_flag flag);
 
 /* When a call stops before its end: how many commits it may visit, and a flag, or CG_NO_FLAG, at which it looks before it reads the
  * parents of each, or goes on past each. A call that stops answers CG_STOPPED, and writes only what it writes when it is refused for
- * another cause.
- * With UINT64_MAX and CG_NO_FLAG none stops. An answer that is given is that of the call without a limit. */
+ * another cause. With UINT64_MAX and CG_NO_FLAG none stops. An answer that is given is that of the call without a limit. */
 typedef struct cg_limit { uint64_t visits; cg_flag flag; } cg_limit;
 
 /* Checks a graph as cg_check does, unless the limit stops the check. It visits the commits in their order, so that CG_STOPPED tells the
@@ -412,8 +410,8 @@ typedef struct cg_block { uint32_t commits; uint64_t length; } cg_block;
  * find too little room. Only then `length` is above `len`: the parents of the last commit of the block are there in part, and
  * whoever goes on begins with that commit once more, in a larger room if it was the first. Of CG_CLOSED there are no commits.
  *
- * The call goes over all parents of the commits of its block, for the last one also over those that find no room, to count them. So
- * let there be room for many commits and their parents: where commits share a long list, a call for each goes over it each time. */
+ * The call goes over all parents of the commits of its block. Of the last one it also counts those that find no room. So let there
+ * be room for many commits and their parents: where commits share a long list, a call for each of them goes over it each time. */
 cg_block cg_parents_from(cg_graph graph, uint32_t first, cg_parent_count *answers, size_t answers_len,
                          uint32_t *out, size_t len);
 

@@ -49,8 +49,8 @@ type Error struct {
 	// Number is that of the question that has no answer, or of the commit that is not written, and Other what commitgraph.h says of
 	// that commit.
 	Number, Other uint64
-	// many is whether many questions were asked in one call.
-	many bool
+	// isNumbered is whether Number is that of a question of which a position is none.
+	isNumbered bool
 }
 
 // Error says what is wrong, in which file and with which commit, and what to do.
@@ -64,7 +64,7 @@ func (e *Error) Error() string {
 		said += fmt.Sprintf(": line %d, counted from 0", e.Layer)
 	case e.Code >= C.CG_WRITE_KIND && e.Code <= C.CG_WRITE_CYCLE || e.Code == C.CG_WRITE_NO_IDS:
 		said += fmt.Sprintf(": commit %d of those that were handed in, counted from 0", e.Number)
-	case e.many:
+	case e.isNumbered:
 		said += fmt.Sprintf(": number %d of those asked, counted from 0", e.Number)
 	case len(e.Commit) > 0:
 		said += fmt.Sprintf("; the commit at position %d is %x", e.Position, e.Commit)
@@ -140,7 +140,7 @@ func OpenWithin(ctx context.Context, path string, distinctIDs bool, visits uint6
 	defer known.free()
 	if !utf8.ValidString(path) {
 		known.root, known.asked = path, ""
-		// The name of a layer's file, which the check compares with the checksum, is told to the library where it is text.
+		// The check compares the name of a layer's file with its checksum.
 		if folder, name := filepath.Split(path); name != "" && utf8.ValidString(name) {
 			known.root, known.asked = strings.TrimSuffix(folder, "/"), name
 		}
@@ -485,7 +485,7 @@ func (g *Graph) IDs(positions []uint32) ([][]byte, error) {
 	all, ids := make([]byte, size*len(positions)), make([][]byte, len(positions))
 	told := C.cg_ids_at(g.raw, (*C.uint32_t)(&asked[0]), C.size_t(len(positions)), at(all), C.size_t(len(all)))
 	if told.code != C.CG_OK {
-		return nil, &Error{Code: uint32(told.code), Number: uint64(told.answered), many: told.code == C.CG_NO_SUCH_POSITION}
+		return nil, &Error{Code: uint32(told.code), Number: uint64(told.answered), isNumbered: told.code == C.CG_NO_SUCH_POSITION}
 	}
 	for number := range ids {
 		ids[number] = all[size*number : size*(number+1)]
@@ -613,7 +613,7 @@ func (g *Graph) CompareAll(pairs [][2]uint32) ([]Comparison, error) {
 		out := make([]uint32, room)
 		told := C.cg_merge_bases_of(g.raw, &asked[0], count, &answers[0], count, (*C.uint32_t)(&out[0]), C.size_t(room))
 		if told.code != C.CG_OK {
-			return nil, &Error{Code: uint32(told.code), Number: uint64(told.answered), many: told.code == C.CG_NO_SUCH_POSITION}
+			return nil, &Error{Code: uint32(told.code), Number: uint64(told.answered), isNumbered: told.code == C.CG_NO_SUCH_POSITION}
 		}
 		if uint64(told.length) <= uint64(room) {
 			return comparisons(answers[:len(pairs)], out), nil

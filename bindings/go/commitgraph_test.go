@@ -117,6 +117,9 @@ func (r *repository) many(graph *Graph) {
 	}
 	_, err = graph.IDs([]uint32{0, graph.Len()})
 	r.refused(err, 4, 1, 0)
+	if !strings.Contains(err.Error(), ": number 1 of those asked") {
+		r.Error(err)
+	}
 	_, err = graph.CompareAll([][2]uint32{{0, 0}, {0, graph.Len()}})
 	r.refused(err, 4, 1, 0)
 	if len(graph.LookupAll(nil)) != 0 {

@@ -271,7 +271,14 @@ class Error(Exception):
     of a commit that was handed in, and `other`, as in commitgraph.h. `advice` says what to do, with the commands to type."""
 
     def __init__(
-        self, code: int, layer: int = 0, position: int = 0, path: str = "", number: int | None = None, other: int = 0, commit: bytes = b""
+        self,
+        code: int,
+        layer: int = 0,
+        position: int = 0,
+        path: str = "",
+        number: int | None = None,
+        other: int = 0,
+        commit: bytes = b"",
     ) -> None:
         self.code, self.layer, self.position, self.path = Code(code), layer, position, path
         self.number, self.other, self.commit, self.advice = number or 0, other, commit, _advice(code)
@@ -807,8 +814,8 @@ def _is_text(name: bytes) -> bool:
 
 
 def _root_and_asked(path: bytes) -> tuple[bytes, bytes]:
-    """The folder from which on the library is asked for paths, and the path that it is asked for, which has to be text: the name of a
-    layer's file, which the check compares with the checksum, stands in it also where the folder is no text."""
+    """The folder at which paths for the library begin, and the path that it is asked for, which has to be text. Where the folder alone
+    is no text, the path is the file's name, since the check compares the name of a layer's file with its checksum."""
     folder, name = os.path.split(path)
     if _is_text(path):
         return b"", path

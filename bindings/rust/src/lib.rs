@@ -3,8 +3,8 @@
 //! What is proved stands behind `extern "C"`; this crate is not proved. It keeps the rules of `commitgraph.h` by Rust's
 //! types: a [`Graph`] owns its handle and closes it once, what is read borrows it, and each slice is passed whole.
 //!
-//! Where memory runs out, calls answer so. But where there is none for a path, for the list of a graph's layers or for the counts of an
-//! [`Outcome`], some bytes each, the program aborts, as `std` has it.
+//! Calls say where memory runs out. But paths, the list of a graph's layers and the counts of an [`Outcome`], some bytes each, are
+//! those of `std`: it ends the program where there is no memory for them.
 //!
 //! ```no_run
 //! let checked = commitgraph::Checked::at(".git/objects/info")?;

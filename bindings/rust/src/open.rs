@@ -85,8 +85,8 @@ fn files_of(known: Vec<Known>, root: &Path, asked: &[u8]) -> Result<Vec<LayerFil
 const FILE: &[u8] = b"commit-graph";
 const CHAIN_FILE: &[u8] = b"commit-graph-chain";
 
-/// The folder from which on the library is asked for paths, and the path that it is asked for, which has to be text: the name of a
-/// layer's file, which the check compares with the checksum, stands in it also where the folder is no text.
+/// The folder at which paths for the library begin, and the path that it is asked for, which has to be text. Where the folder alone
+/// is no text, the path is the file's name, since the check compares the name of a layer's file with its checksum.
 fn root_and_asked(path: &Path) -> (&Path, &str) {
     match (path.to_str(), path.parent(), path.file_name().and_then(OsStr::to_str)) {
         (Some(text), ..) => (Path::new(""), text),
