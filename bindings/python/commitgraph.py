@@ -281,12 +281,23 @@ class Error(Exception):
         commit: bytes = b"",
     ) -> None:
         self.code, self.layer, self.position, self.path = Code(code), layer, position, path
-        self.number, self.other, self.commit, self.advice = number or 0, other, commit, _advice(code)
-        super().__init__(self._said(number is not None))
+        self.number, self.other, self.commit = number or 0, other, commit
+        self.advice, self._happened = self._to_do(), self._said(number is not None)
+        super().__init__(_advised(self._happened, self.advice))
+
+    def _to_do(self) -> str:
+        return "hand in the bytes of a layer" if self._is_of_no_bytes() else _advice(self.code)
+
+    def _is_of_no_bytes(self) -> bool:
+        """Whether no layer was handed in, where another refusal of the same number names a chain file."""
+        return self.code == Code.GRAPH_NO_FILES and not self.path
 
     def _said(self, is_numbered: bool) -> str:
+        """What happened, alone."""
         said = (self.path + ": " if self.path else "") + SENTENCES[self.code]
-        if self.code == Code.OPEN_CHAIN_NOT_TEXT:
+        if self._is_of_no_bytes():
+            said = "no layer is handed in"
+        elif self.code == Code.OPEN_CHAIN_NOT_TEXT:
             said += f": line {self.layer}, counted from 0"
         elif Code.WRITE_KIND <= self.code <= Code.WRITE_CYCLE or self.code == Code.WRITE_NO_IDS:
             said += f": commit {self.number} of those that were handed in, counted from 0"
@@ -294,7 +305,40 @@ class Error(Exception):
             said += f": number {self.number} of those asked, counted from 0"
         elif self.commit:
             said += f"; the commit at position {self.position} is {self.commit.hex()}"
-        return said + ("; what to do: " + self.advice if self.advice else "")
+        return said
+
+
+def _advised(said: str, advice: str) -> str:
+    return said + ("; what to do: " + advice if advice else "")
+
+
+class NeitherError(Error):
+    """Of an info folder neither the file nor the chain was opened, and neither is missing: `file` and `chain` say why each was not, of
+    which one at most is an OSError. The rest is that of the chain, or of the file where the chain could not be read."""
+
+    def __init__(self, file: Exception, chain: Exception) -> None:
+        self.file, self.chain = file, chain
+        told = chain if isinstance(chain, Error) else file
+        assert isinstance(told, Error)
+        super().__init__(told.code, told.layer, told.position, told.path)
+
+    def _to_do(self) -> str:
+        return ANEW
+
+    def _said(self, is_numbered: bool) -> str:
+        return _neither(self.file, self.chain)
+
+
+def _neither(file: Exception, chain: Exception) -> str:
+    """What happened where neither the file of an info folder nor its chain was opened."""
+    return f"neither the file nor the chain was opened: {_alone(file)}; {_alone(chain)}"
+
+
+def _alone(refusal: Exception) -> str:
+    """What happened, without what to do."""
+    if isinstance(refusal, OSError):
+        return f"cannot read {refusal.filename}: {os.strerror(refusal.errno)}"
+    return refusal._happened if isinstance(refusal, Error) else str(refusal)
 
 
 class _Graph(ctypes.Structure):
@@ -622,7 +666,7 @@ class Graph:
 
     def compare_all(self, pairs: Sequence[tuple[int, int]]) -> list[Comparison]:
         """The comparison of the commits of each pair, as `compare` makes it of one."""
-        asked, room = (_Two * (len(pairs) + 1))(*((_place(one), _place(two)) for one, two in pairs)), len(pairs) + 1
+        asked, room = (_Two * (len(pairs) + 1))(*(_Two(_place(one), _place(two)) for one, two in pairs)), len(pairs) + 1
         answers = (_Bases * (len(pairs) + 1))()
         while True:
             out = (c_uint32 * room)()
@@ -854,9 +898,51 @@ def _refusal(told: _PathError, root: bytes, path: bytes, known: list[_Standing])
     if told.code in (Code.OPEN_NOTHING_FOUND, Code.OPEN_NOT_OPENED, Code.OPEN_READ_FAILED):
         said = (it.error for it in known if it.path == path)
         error = next(said, FileNotFoundError(errno.ENOENT, os.strerror(errno.ENOENT), whole))
-        return OSError(error.errno, f"{error.strerror}; what to do: {_advice(told.code)}; the path is", os.fsdecode(error.filename))
+        return _unread(error.errno, error.strerror, told.code, error.filename)
     is_of_chain = told.code == Code.OPEN_CHAIN_NOT_TEXT or told.code >= Code.GRAPH_NO_FILES
     return Error(told.code, told.layer, path="" if told.code == Code.OUT_OF_MEMORY else _beside(whole) if is_of_chain else whole)
+
+
+def _unread(number: int, said: str, code: int, path: str | bytes) -> OSError:
+    """What the system says of a file that was not read, by its number, and what to do."""
+    return OSError(number, f"{said}; what to do: {_advice(code)}; the path is", os.fsdecode(path))
+
+
+def _opened_asked(root: bytes, asked: bytes, known: list[_Standing]) -> _Graph:
+    """The graph that was asked for. The refusal of an info folder's file is not hidden by that of its chain."""
+    try:
+        return _opened(root, asked, ANYTHING, known)
+    except (Error, OSError) as error:
+        chain = error
+    file = next((it.path for it in known if it.path != asked and it.path.endswith(b"commit-graph")), None)
+    if file is None or _is_of_memory(chain):
+        raise chain
+    try:
+        return _opened(root, file, FILE, known)
+    except (Error, OSError) as error:
+        refusal = _of_both(error, chain)
+    raise refusal
+
+
+def _of_both(file: Exception, chain: Exception) -> Exception:
+    """Why neither the file of an info folder nor its chain was opened, by why each was not."""
+    if _is_missing(file) or _is_of_memory(file):
+        return chain
+    if _is_missing(chain):
+        return file
+    if isinstance(file, OSError) and isinstance(chain, OSError):
+        code = Code.OPEN_READ_FAILED if chain.errno == errno.EIO else Code.OPEN_NOT_OPENED
+        return _unread(chain.errno, _neither(file, chain), code, chain.filename)
+    return NeitherError(file, chain)
+
+
+def _is_missing(error: Exception) -> bool:
+    """Whether a file is not there, or what should be its folder is none."""
+    return isinstance(error, (FileNotFoundError, NotADirectoryError))
+
+
+def _is_of_memory(error: Exception) -> bool:
+    return isinstance(error, Error) and error.code == Code.OUT_OF_MEMORY
 
 
 def _layers(root: bytes, asked: bytes, known: list[_Standing]) -> list[tuple[bytes, str]]:
@@ -877,15 +963,10 @@ def open(
     """Opens the graph at a path, of a file, of a folder with a chain or of an info folder, and checks it. The check is stopped as
     `Graph.is_ancestor` is; the digests of files are not.
 
-    OSError is raised where a file cannot be read, and Error where the graph is refused. Where the chain of an info folder cannot
-    be read, it is the refusal of the folder's file, if it has one."""
+    OSError is raised where a file cannot be read, and Error where the graph is refused. Where neither the file nor the chain of an
+    info folder is opened, what is raised tells both, if neither is missing: a NeitherError, or an OSError where neither can be
+    read."""
     root, asked = _root_and_asked(os.fsencode(path))
     known: list[_Standing] = []
-    try:
-        opened = _opened(root, asked, ANYTHING, known)
-    except OSError:
-        file = next((it.path for it in known if it.path != asked and it.path.endswith(b"commit-graph") and it.kind == READ), None)
-        if file is None:
-            raise
-        opened = _opened(root, file, FILE, known)
+    opened = _opened_asked(root, asked, known)
     return Graph._checked(opened, distinct_ids, _limit(visits, flag), _layers(root, asked, known))

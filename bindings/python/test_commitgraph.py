@@ -1,6 +1,7 @@
 """Over a commit-graph that Git writes: what the module answers is what Git says."""
 
 import ctypes.util
+import errno
 import hashlib
 import os
 import pathlib
@@ -12,7 +13,7 @@ import unittest
 from collections.abc import Callable
 
 import commitgraph
-from commitgraph import Code, Error, Flag, Graph, NewCommit
+from commitgraph import Code, Error, Flag, Graph, NeitherError, NewCommit
 
 WHO = {f"GIT_{who}_{what}": "a@b" for who in ("AUTHOR", "COMMITTER") for what in ("NAME", "EMAIL")}
 WHEN = {"GIT_AUTHOR_DATE": "1000000000 +0000", "GIT_COMMITTER_DATE": "1000000000 +0000"}
@@ -190,6 +191,36 @@ class OverGit(unittest.TestCase):
         pathlib.Path(misnamed).write_bytes(lowest)
         self.refused(Code.CHECK_FILE_NAME, lambda: commitgraph.open(misnamed))
 
+    def test_neither(self) -> None:
+        """Neither refusal of an info folder hides the other; one of what is missing does not count."""
+        file, chain = self.info / "commit-graph", self.info / "commit-graphs/commit-graph-chain"
+        chain.parent.mkdir()
+        file.write_bytes(b"CGPH")
+        self.refused(Code.FILE_TOO_SHORT, lambda: commitgraph.open(self.info), path=str(file))
+        chain.write_bytes(b"")
+        with self.assertRaises(NeitherError) as raised:
+            commitgraph.open(self.info)
+        told = raised.exception
+        self.assertEqual((told.code, told.path), (Code.GRAPH_NO_FILES, str(chain)))
+        parts = (f"{file}: the file has fewer than 1100 bytes: often it is truncated", f"{chain}: the chain file names no layer")
+        self.assertEqual(str(told), f"neither the file nor the chain was opened: {'; '.join(parts)}; what to do: {told.advice}")
+        for part, said in zip((told.file, told.chain), parts):
+            self.assertTrue(str(part).startswith(said + "; what to do: remove "), str(part))
+        chain.unlink()
+        chain.symlink_to(chain)
+        with self.assertRaisesRegex(NeitherError, f"; cannot read {chain}: Too many levels of symbolic links; ") as raised:
+            commitgraph.open(self.info)
+        self.assertEqual((raised.exception.code, raised.exception.path), (Code.FILE_TOO_SHORT, str(file)))
+        file.unlink()
+        file.symlink_to(file)
+        with self.assertRaisesRegex(OSError, f"cannot read {file}: .*; cannot read {chain}: .*; what to do: ") as unread:
+            commitgraph.open(self.info)
+        self.assertEqual((unread.exception.errno, unread.exception.filename), (errno.ELOOP, str(chain)))
+        file.unlink()
+        chain.unlink()
+        chain.write_bytes(b"")
+        self.refused(Code.GRAPH_NO_FILES, lambda: commitgraph.open(self.info), path=str(chain))
+
     def test_limits(self) -> None:
         """Within as many commits as there are all is answered; within none, and after a flag was raised, it is stopped."""
         self.git("commit-graph", "write", "--reachable")
@@ -255,6 +286,8 @@ class OverGit(unittest.TestCase):
             with self.assertRaises(Error) as raised:
                 Graph(layers)
             self.assertEqual(raised.exception.code, code)
+        with self.assertRaisesRegex(Error, "^no layer is handed in; what to do: hand in the bytes of a layer$"):
+            Graph([])
         with self.assertRaises(FileNotFoundError) as missing:
             commitgraph.open("no/such/folder")
         self.assertIn("check the path; the path is: 'no/such/folder'", str(missing.exception))
