@@ -55,11 +55,18 @@ type Error struct {
 
 // Error says what is wrong, in which file and with which commit, and what to do.
 func (e *Error) Error() string {
+	return advised(e.happened(), e.Advice())
+}
+
+// happened says what is wrong, alone.
+func (e *Error) happened() string {
 	said := C.GoString(C.cg_strerror(C.uint32_t(e.Code)))
 	if e.Path != "" {
 		said = e.Path + ": " + said
 	}
 	switch {
+	case e.isOfNoBytes():
+		said = "no layer is handed in"
 	case e.Code == C.CG_OPEN_CHAIN_NOT_TEXT:
 		said += fmt.Sprintf(": line %d, counted from 0", e.Layer)
 	case e.Code >= C.CG_WRITE_KIND && e.Code <= C.CG_WRITE_CYCLE || e.Code == C.CG_WRITE_NO_IDS:
@@ -69,12 +76,81 @@ func (e *Error) Error() string {
 	case len(e.Commit) > 0:
 		said += fmt.Sprintf("; the commit at position %d is %x", e.Position, e.Commit)
 	}
-	return advised(said, e.Advice())
+	return said
 }
 
 // Advice says what to do, with the commands to type, or is empty.
 func (e *Error) Advice() string {
+	if e.isOfNoBytes() {
+		return "hand in the bytes of a layer"
+	}
 	return C.GoString(C.cg_advice(C.uint32_t(e.Code)))
+}
+
+// isOfNoBytes says whether no layer was handed in, where another refusal with the same code names a chain file.
+func (e *Error) isOfNoBytes() bool {
+	return e.Code == C.CG_GRAPH_NO_FILES && e.Path == ""
+}
+
+// NeitherError says that of an info folder neither the file nor the chain was opened, and why each was not; neither is missing.
+// errors.As and errors.Is look into Chain, and then into File.
+type NeitherError struct {
+	File, Chain error
+}
+
+// Error says what is wrong with both, and what to do.
+func (e *NeitherError) Error() string {
+	return advised("neither the file nor the chain was opened: "+alone(e.File)+"; "+alone(e.Chain), e.Advice())
+}
+
+// Advice says what to do, with the commands to type.
+func (e *NeitherError) Advice() string {
+	var file, chain *unread
+	if errors.As(e.File, &file) && errors.As(e.Chain, &chain) {
+		return chain.advice()
+	}
+	return C.GoString(C.cg_advice(C.CG_OPEN_CHAIN_NOT_TEXT))
+}
+
+// As finds what the target points to in one of both.
+func (e *NeitherError) As(target any) bool {
+	return errors.As(e.Chain, target) || errors.As(e.File, target)
+}
+
+// Is says whether one of both is the target.
+func (e *NeitherError) Is(target error) bool {
+	return errors.Is(e.Chain, target) || errors.Is(e.File, target)
+}
+
+// alone says what happened, without what to do.
+func alone(err error) string {
+	var told *Error
+	var file *unread
+	switch {
+	case errors.As(err, &told):
+		return told.happened()
+	case errors.As(err, &file):
+		return file.error.Error()
+	}
+	return err.Error()
+}
+
+// unread is what the system says of a file that was not read, with the code of which the advice is.
+type unread struct {
+	error
+	code C.uint32_t
+}
+
+func (u *unread) Error() string {
+	return advised(u.error.Error(), u.advice())
+}
+
+func (u *unread) Unwrap() error {
+	return u.error
+}
+
+func (u *unread) advice() string {
+	return C.GoString(C.cg_advice(u.code))
 }
 
 func advised(said, advice string) string {
@@ -127,8 +203,8 @@ type Layer struct {
 }
 
 // Open opens the graph at a path, of a file, of a folder with a chain or of an info folder, in most repositories
-// .git/objects/info, and checks it; with distinctIDs also that no id stands in two layers. Where the chain of an info folder cannot
-// be read, the error is the refusal of the folder's file, if it has one.
+// .git/objects/info, and checks it; with distinctIDs also that no id stands in two layers. Where neither the file nor the chain of an
+// info folder is opened, the error is a *NeitherError, if neither is missing.
 func Open(path string, distinctIDs bool) (*Graph, error) {
 	return OpenWithin(context.Background(), path, distinctIDs, math.MaxUint64)
 }
@@ -145,25 +221,27 @@ func OpenWithin(ctx context.Context, path string, distinctIDs bool, visits uint6
 			known.root, known.asked = strings.TrimSuffix(folder, "/"), name
 		}
 	}
-	raw, err := known.open(known.asked, C.CG_ANYTHING)
-	var told *Error
-	if file := known.file(); err != nil && !errors.As(err, &told) && file != nil {
-		raw, err = known.open(file.path, C.CG_FILE)
-	}
+	raw, err := known.openAsked()
 	if err != nil {
 		return nil, err
 	}
+	return known.checked(ctx, raw, distinctIDs, visits)
+}
+
+// checked checks the graph that was opened, and closes it where it is refused.
+func (p *paths) checked(ctx context.Context, raw C.cg_graph, distinctIDs bool, visits uint64) (*Graph, error) {
 	var verdict C.cg_verdict
 	var counts [1]C.cg_count
 	graph := &Graph{}
-	err = within(ctx, visits, func(limit C.cg_limit) C.uint32_t {
+	err := within(ctx, visits, func(limit C.cg_limit) C.uint32_t {
 		given := raw
 		raw = C.cg_graph{}
 		return C.cg_check_within(given, C.bool(distinctIDs), limit, &verdict, &counts[0], 0, &graph.raw)
 	})
 	C.cg_close(raw)
+	var told *Error
 	if errors.As(err, &told) {
-		return nil, known.refused(told.Code, &verdict)
+		return nil, p.refused(told.Code, &verdict)
 	}
 	if err != nil {
 		return nil, err
@@ -224,10 +302,10 @@ func (p *paths) free() {
 	}
 }
 
-// file is that of an info folder, if it was read.
+// file is what stands where an info folder has its file, if an info folder was asked for.
 func (p *paths) file() *standing {
 	for _, it := range p.known {
-		if it.raw.kind == C.CG_READ && it.path != p.asked && strings.HasSuffix(it.path, "commit-graph") {
+		if it.path != p.asked && strings.HasSuffix(it.path, "commit-graph") {
 			return it
 		}
 	}
@@ -282,6 +360,35 @@ func (p *paths) whole(path string) string {
 	return p.root + "/" + path
 }
 
+// openAsked opens the graph that was asked for. The refusal of an info folder's file is not hidden by that of its chain.
+func (p *paths) openAsked() (C.cg_graph, error) {
+	raw, chain := p.open(p.asked, C.CG_ANYTHING)
+	file := p.file()
+	if chain == nil || file == nil || isOfMemory(chain) {
+		return raw, chain
+	}
+	raw, err := p.open(file.path, C.CG_FILE)
+	switch {
+	case err == nil:
+		return raw, nil
+	case isMissing(err) || isOfMemory(err):
+		return raw, chain
+	case isMissing(chain):
+		return raw, err
+	}
+	return raw, &NeitherError{err, chain}
+}
+
+// isMissing says whether a file is not there, or what should be its folder is none.
+func isMissing(err error) bool {
+	return errors.Is(err, os.ErrNotExist) || errors.Is(err, syscall.ENOTDIR)
+}
+
+func isOfMemory(err error) bool {
+	var told *Error
+	return errors.As(err, &told) && told.Code == C.CG_OUT_OF_MEMORY
+}
+
 // open opens the graph at a path, by as many calls as there are paths of which the library has to know.
 func (p *paths) open(path string, place C.uint32_t) (C.cg_graph, error) {
 	for room := 4096; ; {
@@ -294,7 +401,7 @@ func (p *paths) open(path string, place C.uint32_t) (C.cg_graph, error) {
 		case told.code == C.CG_PATH_WANTED:
 			p.learn(file)
 		case told.code == C.CG_OPEN_NOTHING_FOUND:
-			return raw, unread(&os.PathError{Op: "open", Path: p.whole(path), Err: os.ErrNotExist}, told.code)
+			return raw, &unread{&os.PathError{Op: "open", Path: p.whole(path), Err: os.ErrNotExist}, told.code}
 		default:
 			return raw, p.refusal(told, file)
 		}
@@ -369,7 +476,7 @@ func (p *paths) refusal(told C.cg_path_error, file string) error {
 	if told.code == C.CG_OPEN_NOT_OPENED || told.code == C.CG_OPEN_READ_FAILED {
 		for _, it := range p.known {
 			if it.path == file && it.err != nil {
-				return unread(it.err, told.code)
+				return &unread{it.err, told.code}
 			}
 		}
 	}
@@ -382,11 +489,6 @@ func (p *paths) refusal(told C.cg_path_error, file string) error {
 		err.Path = p.whole(file)
 	}
 	return err
-}
-
-// unread adds to what the system says of a file what to do.
-func unread(err error, code C.uint32_t) error {
-	return fmt.Errorf("%w; what to do: %s", err, C.GoString(C.cg_advice(code)))
 }
 
 // chainLines are the lines of a chain file, each of which names a layer.

@@ -15,6 +15,7 @@ import (
 	"sort"
 	"strconv"
 	"strings"
+	"syscall"
 	"testing"
 )
 
@@ -306,6 +307,52 @@ func TestPaths(t *testing.T) {
 	}
 }
 
+// TestNeither has neither refusal of an info folder hide the other; one of what is missing does not count.
+func TestNeither(t *testing.T) {
+	r := made(t)
+	file, chain := filepath.Join(r.info, "commit-graph"), filepath.Join(r.info, "commit-graphs", "commit-graph-chain")
+	for _, err := range []error{os.Mkdir(filepath.Dir(chain), 0o755), os.WriteFile(file, []byte("CGPH"), 0o644)} {
+		if err != nil {
+			t.Fatal(err)
+		}
+	}
+	_, alone := Open(r.info, false)
+	r.refused(alone, 101, 0, 0)
+	if err := os.WriteFile(chain, nil, 0o644); err != nil {
+		t.Fatal(err)
+	}
+	_, err := Open(r.info, false)
+	r.refused(err, 201, 0, 0)
+	var both *NeitherError
+	if !errors.As(err, &both) || both.File.Error() != alone.Error() {
+		t.Fatal(err)
+	}
+	r.same("both", err.Error(), "neither the file nor the chain was opened: "+file+": the file has fewer than 1100 bytes: "+
+		"often it is truncated; "+chain+": the chain file names no layer; what to do: "+both.Advice())
+	r.says(err, file, "")
+	loop := func(path string) {
+		os.Remove(path)
+		if err := os.Symlink(path, path); err != nil {
+			t.Fatal(err)
+		}
+	}
+	loop(chain)
+	_, err = Open(r.info, false)
+	r.refused(err, 101, 0, 0)
+	r.says(err, "; stat "+chain+": too many levels of symbolic links; what to do: remove ", "")
+	loop(file)
+	_, err = Open(r.info, false)
+	if !errors.Is(err, syscall.ELOOP) || !strings.Contains(err.Error(), "check permissions") {
+		t.Error(err)
+	}
+	r.says(err, "stat "+file+": ", "")
+	os.Remove(file)
+	_, err = Open(r.info, false)
+	if errors.As(err, &both) {
+		t.Error(err)
+	}
+}
+
 // The layer and the commit of which a check speaks are told, of a file by its bytes, and of a chain by its path.
 func TestFaults(t *testing.T) {
 	r := made(t)
@@ -505,6 +552,9 @@ func TestRefusals(t *testing.T) {
 		t.Error(err)
 	}
 	r.says(err, filepath.Join(r.info, "commit-graphs", "commit-graph-chain"), "")
+	_, err = OpenLayers(nil, false)
+	r.refused(err, 201, 0, 0)
+	r.same("no layer", err.Error(), "no layer is handed in; what to do: hand in the bytes of a layer")
 	if _, err := Open("no/such/folder", false); !errors.Is(err, os.ErrNotExist) || !strings.Contains(err.Error(), "check the path") {
 		t.Error(err)
 	}
