@@ -82,7 +82,7 @@ func (e *Error) happened() string {
 // Advice says what to do, with the commands to type, or is empty.
 func (e *Error) Advice() string {
 	if e.isOfNoBytes() {
-		return "hand in the bytes of a layer"
+		return "hand in at least one"
 	}
 	return C.GoString(C.cg_advice(C.uint32_t(e.Code)))
 }

@@ -554,7 +554,7 @@ func TestRefusals(t *testing.T) {
 	r.says(err, filepath.Join(r.info, "commit-graphs", "commit-graph-chain"), "")
 	_, err = OpenLayers(nil, false)
 	r.refused(err, 201, 0, 0)
-	r.same("no layer", err.Error(), "no layer is handed in; what to do: hand in the bytes of a layer")
+	r.same("no layer", err.Error(), "no layer is handed in; what to do: hand in at least one")
 	if _, err := Open("no/such/folder", false); !errors.Is(err, os.ErrNotExist) || !strings.Contains(err.Error(), "check the path") {
 		t.Error(err)
 	}

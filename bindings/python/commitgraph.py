@@ -286,7 +286,7 @@ class Error(Exception):
         super().__init__(_advised(self._happened, self.advice))
 
     def _to_do(self) -> str:
-        return "hand in the bytes of a layer" if self._is_of_no_bytes() else _advice(self.code)
+        return "hand in at least one" if self._is_of_no_bytes() else _advice(self.code)
 
     def _is_of_no_bytes(self) -> bool:
         """Whether no layer was handed in, where another refusal of the same number names a chain file."""

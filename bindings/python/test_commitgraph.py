@@ -286,7 +286,7 @@ class OverGit(unittest.TestCase):
             with self.assertRaises(Error) as raised:
                 Graph(layers)
             self.assertEqual(raised.exception.code, code)
-        with self.assertRaisesRegex(Error, "^no layer is handed in; what to do: hand in the bytes of a layer$"):
+        with self.assertRaisesRegex(Error, "^no layer is handed in; what to do: hand in at least one$"):
             Graph([])
         with self.assertRaises(FileNotFoundError) as missing:
             commitgraph.open("no/such/folder")

@@ -74,6 +74,7 @@ impl OpenError {
             OpenError::Io { .. } => advice::NOT_OPENED,
             OpenError::Neither { file, chain } if file.is_io() && chain.is_io() => chain.advice(),
             OpenError::Graph { error: GraphError::TooManyCommits, .. } => advice::TOO_MANY_COMMITS,
+            OpenError::Graph { path, error: GraphError::NoFiles } if path.as_os_str().is_empty() => "hand in at least one",
             OpenError::ChainLine { .. } | OpenError::Layer { .. } | OpenError::Graph { .. } | OpenError::Neither { .. } => advice::ANEW,
             OpenError::Check(error) => error.advice(),
             OpenError::Stopped { .. } => "",
@@ -141,6 +142,7 @@ impl OpenError {
             }
             OpenError::Layer { layer, path, error } if path.as_os_str().is_empty() => write!(f, "layer {layer}: {error}"),
             OpenError::Layer { path, error, .. } => write!(f, "{}: {error}", path.display()),
+            OpenError::Graph { path, error: GraphError::NoFiles } if path.as_os_str().is_empty() => f.write_str("no layer is handed in"),
             OpenError::Graph { path, error } if path.as_os_str().is_empty() => write!(f, "{error}"),
             OpenError::Graph { path, error } => write!(f, "{}: {error}", path.display()),
             OpenError::Check(error) => write!(f, "{error}"),

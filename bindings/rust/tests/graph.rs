@@ -156,7 +156,7 @@ fn what_is_refused_is_told() {
     says(&short, "layer 1: the file has fewer than 1100 bytes: often it is truncated");
     let named = refused(&[(b"CGPH", "a/graph-b.graph")]);
     says(&named, "a/graph-b.graph: the file has fewer than 1100 bytes: often it is truncated");
-    says(&refused(&[]), "the chain file names no layer");
+    assert_eq!(refused(&[]).to_string(), "no layer is handed in; what to do: hand in at least one");
     let missing = Graph::from_file("no/such/file").unwrap_err();
     assert!(missing.to_string().starts_with("cannot read no/such/file (what to do: `git commit-graph write --reachable` makes"));
     assert!(missing.source().is_some_and(|source| source.is::<std::io::Error>()) && refused(&[]).source().is_none());
