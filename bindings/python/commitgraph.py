@@ -492,8 +492,9 @@ def _load() -> ctypes.CDLL:
 def _how_to_install() -> str:
     """How the library comes to where it is looked for."""
     script = (CLONE / "scripts/library").resolve()
-    build = shlex.quote(str(script)) if script.exists() else "scripts/library in a clone of Nolavimure"
-    return f"run {build}, which proves and builds it; or after scripts/install PREFIX let COMMITGRAPH_LIB name the folder PREFIX/lib"
+    build = "run " + (shlex.quote(str(script)) if script.exists() else "scripts/library in a clone of Nolavimure")
+    first = "unset COMMITGRAPH_LIB and " if os.environ.get("COMMITGRAPH_LIB") else ""
+    return f"{first}{build}, which proves and builds it; or after scripts/install PREFIX let COMMITGRAPH_LIB name the folder PREFIX/lib"
 
 
 _library = _load()

@@ -1,8 +1,9 @@
 //! Links the library, `libcommitgraph.a`. It is looked for in the folders that `COMMITGRAPH_LIB` names, with a colon between
 //! them; where that is not set, in this clone, where `scripts/library` makes it, and then where `pkg-config` says.
-use std::env;
+use std::os::unix::process::parent_id;
 use std::path::{Path, PathBuf};
-use std::process::Command;
+use std::process::{exit, Command};
+use std::{env, fs};
 
 /// What is to be linked: all names of a row stand in the folders, or the row is not it.
 const ARCHIVES: [&[&str]; 2] = [&["commitgraph_c", "libc_c"], &["commitgraph"]];
@@ -10,19 +11,31 @@ const ARCHIVES: [&[&str]; 2] = [&["commitgraph_c", "libc_c"], &["commitgraph"]];
 fn main() {
     println!("cargo:rerun-if-changed=build.rs");
     println!("cargo:rerun-if-env-changed=COMMITGRAPH_LIB");
-    let folders = match env::var("COMMITGRAPH_LIB") {
-        Ok(named) => named.split(':').map(whole).collect(),
-        Err(_) => vec![clone().join("crates/commitgraph_c/out")],
-    };
-    if !link_first(&folders) && !link_installed() {
-        let places: Vec<_> = folders.iter().map(|folder| folder.join("libcommitgraph.a").display().to_string()).collect();
-        eprintln!(
-            "there is no {}, and pkg-config knows no commitgraph; what to do: run scripts/library at the top of the clone, which \
-             proves and builds it; or after scripts/install PREFIX let COMMITGRAPH_LIB name the folder PREFIX/lib",
-            places.join(", and no ")
-        );
-        std::process::exit(1);
+    let named = env::var_os("COMMITGRAPH_LIB").filter(|named| !named.is_empty());
+    if let Some(named) = named {
+        let folders: Vec<_> = env::split_paths(&named).map(whole).collect();
+        if !link_first(&folders) {
+            give_up(&folders, "COMMITGRAPH_LIB names no other folder", "unset COMMITGRAPH_LIB and ");
+        }
+    } else {
+        let built = [clone().join("crates/commitgraph_c/out")];
+        if !link_first(&built) && !link_installed() {
+            give_up(&built, "pkg-config knows no commitgraph", "");
+        }
     }
+}
+
+/// Ends the build, since no library is in these folders, and elsewhere neither; and says what is to be done first.
+fn give_up(folders: &[PathBuf], elsewhere: &str, first: &str) -> ! {
+    let places: Vec<_> = folders.iter().map(|folder| folder.join("libcommitgraph.a").display().to_string()).collect();
+    let script = clone().join("scripts/library");
+    let script = if script.is_file() { format!("'{}'", script.display()) } else { "scripts/library in a clone of Nolavimure".into() };
+    eprintln!(
+        "there is no {}, and {elsewhere}; what to do: {first}run {script}, which proves and builds it; or after scripts/install \
+         PREFIX let COMMITGRAPH_LIB name the folder PREFIX/lib",
+        places.join(", and no ")
+    );
+    exit(1);
 }
 
 /// The top of the clone that this crate is in.
@@ -32,13 +45,29 @@ fn clone() -> PathBuf {
 }
 
 /// A folder by its whole path. One that is not whole begins where Cargo was started.
-fn whole(folder: &str) -> PathBuf {
-    let path = Path::new(folder);
-    if path.is_relative() {
-        println!("cargo:rerun-if-env-changed=PWD");
+fn whole(folder: PathBuf) -> PathBuf {
+    if folder.is_absolute() {
+        return folder;
     }
-    let started = env::var_os("PWD").map(|started| Path::new(&started).join(path));
-    started.filter(|path| path.is_dir()).unwrap_or_else(|| env::current_dir().expect("a folder to begin in").join(path))
+    let Ok(started) = fs::read_link(format!("/proc/{}/cwd", parent_id())) else {
+        eprintln!(
+            "COMMITGRAPH_LIB names {}, and the system does not tell where that begins; what to do: let it name the whole path",
+            folder.display()
+        );
+        exit(1);
+    };
+    look_again_elsewhere(&started);
+    started.join(folder)
+}
+
+/// Has Cargo look again where it is started in another folder than this one. It sees that by `PWD`; where that says another folder, or
+/// none, it looks each time, since the file of this name is never there.
+fn look_again_elsewhere(started: &Path) {
+    println!("cargo:rerun-if-env-changed=PWD");
+    let told = env::var_os("PWD").and_then(|told| fs::canonicalize(told).ok());
+    if told.as_deref() != Some(started) {
+        println!("cargo:rerun-if-changed=no/such/file");
+    }
 }
 
 /// Links the first archives that are all there, and says whether there are any. A newer archive is linked anew.
@@ -60,6 +89,7 @@ fn archive(folders: &[PathBuf], name: &str) -> Option<PathBuf> {
 
 /// Links the library that `scripts/install` has put where `pkg-config` looks.
 fn link_installed() -> bool {
+    println!("cargo:rerun-if-env-changed=PKG_CONFIG_PATH");
     let asked = Command::new("pkg-config").args(["--variable=libdir", "commitgraph"]).output();
     let folder = asked.ok().filter(|told| told.status.success()).map(|told| String::from_utf8_lossy(&told.stdout).into_owned());
     folder.is_some_and(|folder| link_first(&[PathBuf::from(folder.trim())]))

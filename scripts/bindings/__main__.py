@@ -442,9 +442,14 @@ def rust_tests(crate, environment):
 
 
 def linked_anew(crate, environment, archive):
-    """A newer archive is linked anew, and a folder that is named by a part of its path is found."""
+    """A newer archive is linked anew, and a folder that is named by a part of its path is found, whatever `PWD` says."""
     missing = run("cargo", "build", "--offline", cwd=crate, env={**environment, "COMMITGRAPH_LIB": "no/such/folder"})
-    expect("Rust: a folder without the library", "no/such/folder" in missing.stderr and missing.returncode, missing)
+    told = f"there is no {crate}/no/such/folder/libcommitgraph.a, and " in missing.stderr and "unset COMMITGRAPH_LIB and run " in missing.stderr
+    expect("Rust: a folder without the library", missing.returncode and told, missing)
+    for shell in ("/", str(crate), ""):
+        at = {**environment, "COMMITGRAPH_LIB": "crates/commitgraph_c/out", "PWD": shell}
+        done = run("cargo", "build", "--offline", "--manifest-path", crate / "Cargo.toml", cwd=crate.parent.parent, env=at)
+        expect(f"Rust: a folder that begins where Cargo is started, PWD {shell!r}", done.returncode == 0, done)
     for named in ({}, {"COMMITGRAPH_LIB": "../../crates/commitgraph_c/out", "PWD": str(crate)}):
         at = {**environment, **named}
         built = [run("cargo", "build", "--offline", cwd=crate, env=at) for _ in range(2)]
