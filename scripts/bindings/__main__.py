@@ -441,10 +441,21 @@ def rust_tests(crate, environment):
         expect("Rust: ThreadSanitizer", done.returncode == 0 and "4 threads read" in done.stdout, done)
 
 
+def without_warnings(crate, environment):
+    """What clippy says of both Rust crates."""
+    if run("cargo", "clippy", "--version").returncode:
+        print("Rust: clippy: left out, since cargo has no clippy")
+        return
+    for folder, flags in ((crate, []), (crate / "gix-commitgraph", ["--features", "sha1,sha256"])):
+        words = ["cargo", "clippy", "--quiet", "--offline", "--all-targets", *flags, "--", "-D", "warnings"]
+        done = run(*words, cwd=folder, env=environment)
+        expect(f"Rust: clippy, {folder.name}", done.returncode == 0 and not done.stderr, done)
+
+
 def linked_anew(crate, environment, archive):
     """A newer archive is linked anew, and a folder that is named by a part of its path is found, whatever `PWD` says."""
     missing = run("cargo", "build", "--offline", cwd=crate, env={**environment, "COMMITGRAPH_LIB": "no/such/folder"})
-    told = f"there is no {crate}/no/such/folder/libcommitgraph.a, and " in missing.stderr and "unset COMMITGRAPH_LIB and run " in missing.stderr
+    told = f"there is no {crate.resolve()}/no/such/folder/libcommitgraph.a, and " in missing.stderr and "unset COMMITGRAPH_LIB and run " in missing.stderr
     expect("Rust: a folder without the library", missing.returncode and told, missing)
     for shell in ("/", str(crate), ""):
         at = {**environment, "COMMITGRAPH_LIB": "crates/commitgraph_c/out", "PWD": shell}
@@ -466,6 +477,7 @@ def rust(environment, archive, scratch, graphs):
     shutil.copy(archive, library)
     crate = shutil.copytree(TOP / "bindings/rust", scratch / "clone/bindings/rust", ignore=shutil.ignore_patterns("target"))
     rust_tests(crate, environment)
+    without_warnings(crate, environment)
     linked_anew(crate, environment, library / archive.name)
     graph, ids = graphs["sha1"]
     done = run("cargo", "build", "--quiet", "--offline", "--examples", cwd=crate, env=environment)
@@ -694,13 +706,17 @@ def by_cmake(compiler, prefix, scratch, graph, commit):
 
 
 def python(library):
-    """The module for Python: its tests, over the shared library."""
+    """The module for Python: its types, as `mypy` reads them, and its tests, over the shared library."""
+    module = TOP / "bindings/python/commitgraph.py"
+    if present("mypy", "Python: the types"):
+        done = run("mypy", "--strict", f"--cache-dir={os.devnull}", module)
+        expect("Python: mypy", done.returncode == 0, done)
     if sys.version_info < (3, 10):
         print("Python: left out, since it is older than 3.10")
         return
-    tests = TOP / "bindings/python/test_commitgraph.py"
+    tests = module.with_name("test_commitgraph.py")
     done = run(sys.executable, "-B", tests, env={**os.environ, "COMMITGRAPH_LIB": str(library.parent)})
-    expect("Python: tests", done.returncode == 0 and "Ran 9 tests" in done.stderr, done)
+    expect("Python: tests", done.returncode == 0 and "Ran 10 tests" in done.stderr, done)
 
 
 def parts(archive, scratch, graphs):
