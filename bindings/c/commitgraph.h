@@ -755,7 +755,8 @@ static inline const char *cg_advice(uint32_t code) {
     case CG_OPEN_NOTHING_FOUND: return "check the path";
     case CG_OPEN_NOT_OPENED:
         return "`git commit-graph write --reachable` makes a commit-graph (not in a shallow repository); if there is one, "
-               "check permissions, and whether a layer is in another object folder, where it is not looked for";
+               "check permissions, the path (in most repositories `.git/objects/info`), and whether a layer is in another "
+               "object folder, where it is not looked for";
     case CG_OPEN_READ_FAILED: return "try again, and check the disk";
     case CG_GRAPH_TOO_MANY_COMMITS: return "a commit-graph cannot hold more";
     case CG_CHECK_BASE_COUNT: return "open the whole chain, by its folder; else write it anew: " CG_ANEW;

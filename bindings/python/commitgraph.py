@@ -225,7 +225,8 @@ ADVICE = {
     Code.OUT_OF_MEMORY: "give the program more memory",
     Code.OPEN_NOTHING_FOUND: "check the path",
     Code.OPEN_NOT_OPENED: "`git commit-graph write --reachable` makes a commit-graph (not in a shallow repository); if there is one, "
-    "check permissions, and whether a layer is in another object folder, where it is not looked for",
+    "check permissions, the path (in most repositories `.git/objects/info`), and whether a layer is in another object folder, where "
+    "it is not looked for",
     Code.OPEN_READ_FAILED: "try again, and check the disk",
     Code.GRAPH_TOO_MANY_COMMITS: "a commit-graph cannot hold more",
     Code.CHECK_BASE_COUNT: "open the whole chain, by its folder; else write it anew: " + ANEW,

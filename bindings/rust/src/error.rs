@@ -12,6 +12,9 @@ const NO_FOLDER: i32 = 20;
 /// What it says where a read failed.
 const READ_FAILED: i32 = 5;
 
+/// What it says where a folder is read as a file.
+pub(crate) const IS_FOLDER: i32 = 21;
+
 /// What is said where there is no memory.
 const OUT_OF_MEMORY: &str = "memory ran out";
 
@@ -71,6 +74,7 @@ impl OpenError {
     pub fn advice(&self) -> &'static str {
         match self {
             OpenError::Io { error, .. } if error.raw_os_error() == Some(READ_FAILED) => advice::READ_FAILED,
+            OpenError::Io { error, .. } if error.raw_os_error() == Some(IS_FOLDER) => "name a file in it, or open the folder by `at`",
             OpenError::Io { .. } => advice::NOT_OPENED,
             OpenError::Neither { file, chain } if file.is_io() && chain.is_io() => chain.advice(),
             OpenError::Graph { error: GraphError::TooManyCommits, .. } => advice::TOO_MANY_COMMITS,
@@ -124,10 +128,10 @@ impl fmt::Debug for OpenError {
 impl fmt::Display for OpenError {
     fn fmt(&self, f: &mut fmt::Formatter<'_>) -> fmt::Result {
         self.write_happened(f)?;
-        match (self, self.advice()) {
-            (OpenError::Check(_), _) | (_, "") => Ok(()),
-            (OpenError::Io { .. }, advice) => write!(f, " (what to do: {advice})"),
-            (_, advice) => write!(f, "; what to do: {advice}"),
+        match self {
+            OpenError::Check(_) => Ok(()),
+            OpenError::Io { .. } => write!(f, " (what to do: {})", self.advice()),
+            _ => advice::write_after(f, self.advice()),
         }
     }
 }
@@ -209,7 +213,7 @@ impl fmt::Display for CheckError {
         if let Some(id) = self.id {
             write!(f, "; the commit is {id}")?;
         }
-        write!(f, "; what to do: {}", self.advice())
+        advice::write_after(f, self.advice())
     }
 }
 
@@ -544,6 +548,14 @@ impl DatesError {
 
 impl fmt::Display for DatesError {
     fn fmt(&self, f: &mut fmt::Formatter<'_>) -> fmt::Result {
+        self.write_happened(f)?;
+        advice::write_after(f, self.advice())
+    }
+}
+
+impl DatesError {
+    /// What happened, alone.
+    fn write_happened(&self, f: &mut fmt::Formatter<'_>) -> fmt::Result {
         match self {
             DatesError::DataSize { layer } => write!(f, "layer {layer}: `GDA2` has not four bytes for each commit"),
             DatesError::OverflowSize { layer } => {
@@ -656,6 +668,14 @@ impl ProbeError {
 
 impl fmt::Display for ProbeError {
     fn fmt(&self, f: &mut fmt::Formatter<'_>) -> fmt::Result {
+        self.write_happened(f)?;
+        advice::write_after(f, self.advice())
+    }
+}
+
+impl ProbeError {
+    /// What happened, alone.
+    fn write_happened(&self, f: &mut fmt::Formatter<'_>) -> fmt::Result {
         match self {
             ProbeError::IndexSize { layer } => write!(f, "layer {layer}: `BIDX` has not four bytes for each commit"),
             ProbeError::DataSize { layer } => write!(f, "layer {layer}: `BDAT` has fewer than twelve bytes"),
@@ -784,6 +804,14 @@ impl Mismatch {
 
 impl fmt::Display for Mismatch {
     fn fmt(&self, f: &mut fmt::Formatter<'_>) -> fmt::Result {
+        self.write_happened(f)?;
+        advice::write_after(f, self.advice())
+    }
+}
+
+impl Mismatch {
+    /// What happened, alone.
+    fn write_happened(&self, f: &mut fmt::Formatter<'_>) -> fmt::Result {
         match self {
             Mismatch::OtherContents => f.write_str("the bytes are not those of the commit's id"),
             Mismatch::Unreadable => f.write_str("the bytes are not those of a commit"),

@@ -1,5 +1,6 @@
 //! What stands at a path: the library says what it has to know of paths, and opens the graph.
 
+use crate::error::IS_FOLDER;
 use crate::room::collected;
 use crate::{codes, sys, FileError, Graph, GraphError, OpenError};
 use std::collections::TryReserveError;
@@ -230,9 +231,6 @@ fn said(known: Known) -> Option<io::Error> {
         Standing::File(_) | Standing::NoMemory => None,
     }
 }
-
-/// What the system says where a folder is read as a file.
-const IS_FOLDER: i32 = 21;
 
 /// The lines of a chain file, `commit-graph-chain`, each of which names a layer, from the lowest on: the line L is the layer of
 /// the file `graph-L.graph` in the same folder.

@@ -1,7 +1,7 @@
 //! Writing a layer.
 
 use crate::room::{collected, room_for};
-use crate::{codes, sys, Checked, DatesError, Position};
+use crate::{advice, codes, sys, Checked, DatesError, Position};
 use std::collections::TryReserveError;
 use std::fmt;
 
@@ -270,6 +270,18 @@ impl WriteError {
 
 impl fmt::Display for WriteError {
     fn fmt(&self, f: &mut fmt::Formatter<'_>) -> fmt::Result {
+        self.write_happened(f)?;
+        match self {
+            // The source says what to do.
+            WriteError::Dates(_) => Ok(()),
+            _ => advice::write_after(f, self.advice()),
+        }
+    }
+}
+
+impl WriteError {
+    /// What happened, alone.
+    fn write_happened(&self, f: &mut fmt::Formatter<'_>) -> fmt::Result {
         match self {
             WriteError::NoIds { commit } => {
                 write!(f, "commit {commit}: an id has neither 20 nor 32 bytes, or another length than the commit's own")

@@ -160,6 +160,8 @@ fn what_is_refused_is_told() {
     let missing = Graph::from_file("no/such/file").unwrap_err();
     assert!(missing.to_string().starts_with("cannot read no/such/file (what to do: `git commit-graph write --reachable` makes"));
     assert!(missing.source().is_some_and(|source| source.is::<std::io::Error>()) && refused(&[]).source().is_none());
+    let folder = Graph::from_file(made().file.parent().unwrap()).unwrap_err();
+    assert!(folder.to_string().ends_with(" (what to do: name a file in it, or open the folder by `at`)"), "{folder}");
 }
 
 #[test]
@@ -273,8 +275,8 @@ fn each_error_is_a_sentence() {
         (&Fault::Generation { pos, expected: 3 }, "position 7: its generation number is not 3, one more than"),
         (&Fault::Layer { layer: 2, fault: LayerFault::Checksum }, "layer 2: the checksum is not the digest of its bytes"),
         (&Fault::BaseId { layer: 2, index: 1 }, "base id 1 of layer 2 is not the checksum of layer 1"),
-        (&DatesError::TooLarge { pos }, "position 7: the date of the commit is 2^63 or more"),
-        (&ProbeError::Version { layer: 1, version: 3 }, "layer 1: the version of the hash is 3, and neither 1 nor 2"),
+        (&DatesError::TooLarge { pos }, "position 7: the date of the commit is 2^63 or more; what to do: remove `.git/"),
+        (&ProbeError::Version { layer: 1, version: 3 }, "the version of the hash is 3, and neither 1 nor 2; what to do: write it anew,"),
         (&QueryError::OutOfMemory, "memory ran out"),
         (&VerifyError::Processor { pos, error: QueryError::OutOfMemory }, "the processor refused the commit at position 7"),
         (&"0".parse::<ObjectId>().unwrap_err(), "an id has 20 or 32 bytes, or 40 or 64 hexadecimal digits"),

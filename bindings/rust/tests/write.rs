@@ -84,7 +84,7 @@ fn each_refusal_names_its_commit() {
             }
             assert_eq!(writer.write(), Err(wanted));
         }
-        assert!(wanted.source().is_none() && !wanted.to_string().is_empty());
+        assert!(wanted.source().is_none() && wanted.to_string().ends_with(&format!("; what to do: {}", wanted.advice())));
     }
     let mut writer = Writer::on(&below);
     writer.add(id(1), id(9), [first], 5).unwrap();
@@ -98,7 +98,8 @@ fn each_refusal_names_its_commit() {
     writer.add(first, id(9), none, 5).unwrap();
     assert_eq!(writer.write(), Err(WriteError::Below { commit: 0, pos: Position(0) }));
     let wrong = WriteError::Dates(DatesError::DataSize { layer: 1 });
-    assert_eq!(wrong.source().unwrap().to_string(), "layer 1: `GDA2` has not four bytes for each commit");
+    let why = wrong.source().unwrap().to_string();
+    assert!(why.starts_with("layer 1: `GDA2` has not four bytes for each commit; what to do: remove `.git/"), "{why}");
 }
 
 #[test]
