@@ -40,7 +40,7 @@ type Error struct {
 	Code uint32
 	// Layer is the layer that is refused, or the line of the chain file, counted from 0.
 	Layer uint64
-	// Position is that of the commit that is refused.
+	// Position is that of the commit that is refused, or the one that the graph does not have.
 	Position uint32
 	// Commit is the id of that commit, where it is known.
 	Commit []byte
@@ -73,6 +73,8 @@ func (e *Error) happened() string {
 		said += fmt.Sprintf(": commit %d of those that were handed in, counted from 0", e.Number)
 	case e.isNumbered:
 		said += fmt.Sprintf(": number %d of those asked, counted from 0", e.Number)
+	case e.Code == C.CG_NO_SUCH_POSITION && e.Position > 0:
+		said += fmt.Sprintf(": %d", e.Position)
 	case len(e.Commit) > 0:
 		said += fmt.Sprintf("; the commit at position %d is %x", e.Position, e.Commit)
 	}

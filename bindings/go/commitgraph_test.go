@@ -568,8 +568,8 @@ func TestRefusals(t *testing.T) {
 	if err != nil {
 		t.Fatal(err)
 	}
-	if _, err := graph.ID(graph.Len()); err == nil {
-		t.Error("an id past the end")
+	if _, err := graph.ID(graph.Len()); err == nil || err.Error() != "the graph has no such position: 7" {
+		t.Error("an id past the end", err)
 	}
 	if position := graph.Lookup(nil); position != Nowhere {
 		t.Error(position)

@@ -16,6 +16,7 @@ import os
 import pathlib
 import shlex
 import stat
+import string
 from collections.abc import Iterator, Sequence
 from ctypes import POINTER, c_bool, c_size_t, c_uint8, c_uint32, c_uint64, c_void_p
 from itertools import islice
@@ -281,10 +282,15 @@ class Error(Exception):
         other: int = 0,
         commit: bytes = b"",
     ) -> None:
+        self._given: tuple[object, ...] = (code, layer, position, path, number, other, commit)
         self.code, self.layer, self.position, self.path = Code(code), layer, position, path
         self.number, self.other, self.commit = number or 0, other, commit
         self.advice, self._happened = self._to_do(), self._said(number is not None)
         super().__init__(_advised(self._happened, self.advice))
+
+    def __reduce__(self) -> tuple[type["Error"], tuple[object, ...]]:
+        """By which it is copied, and handed from one process to another."""
+        return type(self), self._given
 
     def _to_do(self) -> str:
         return "hand in at least one" if self._is_of_no_bytes() else _advice(self.code)
@@ -304,6 +310,8 @@ class Error(Exception):
             said += f": commit {self.number} of those that were handed in, counted from 0"
         elif self.code == Code.NO_SUCH_POSITION and is_numbered:
             said += f": number {self.number} of those asked, counted from 0"
+        elif self.code == Code.NO_SUCH_POSITION and self.position:
+            said += f": {self.position}"
         elif self.commit:
             said += f"; the commit at position {self.position} is {self.commit.hex()}"
         return said
@@ -322,6 +330,7 @@ class NeitherError(Error):
         told = chain if isinstance(chain, Error) else file
         assert isinstance(told, Error)
         super().__init__(told.code, told.layer, told.position, told.path)
+        self._given = (file, chain)
 
     def _to_do(self) -> str:
         return ANEW
@@ -594,8 +603,9 @@ class Graph:
         return int(_library.cg_num_commits(self._graph))
 
     def lookup(self, commit: bytes | str) -> int | None:
-        """The position of the commit with an id, which is given as bytes or in hexadecimal."""
-        name = bytes.fromhex(commit) if isinstance(commit, str) else commit
+        """The position of the commit with an id, which is given as bytes or in hexadecimal. ValueError is raised where a text is no
+        id: it has 40 or 64 digits."""
+        name = _id_of(commit) if isinstance(commit, str) else commit
         return _found(_library.cg_lookup(self._graph, _at(name), len(name)))
 
     def lookup_all(self, commits: Sequence[bytes]) -> list[int | None]:
@@ -785,6 +795,13 @@ def _hand_in(commit: NewCommit, to: _NewCommit, place: int) -> int:
         place += size
     to.time = commit.time if 0 <= commit.time < 2**64 else 2**64 - 1
     return place
+
+
+def _id_of(text: str) -> bytes:
+    """The id that hexadecimal digits spell."""
+    if len(text) not in (40, 64) or not set(text) <= set(string.hexdigits):
+        raise ValueError(f"{text!r} is no id, which has 40 or 64 hexadecimal digits; what to do: give those that `git rev-parse` prints")
+    return bytes.fromhex(text)
 
 
 NOWHERE = 0xFFFFFFFF

@@ -5,6 +5,7 @@ import errno
 import hashlib
 import os
 import pathlib
+import pickle
 import shutil
 import subprocess
 import sys
@@ -64,6 +65,10 @@ class OverGit(unittest.TestCase):
         self.assertEqual(graph.lookup_all([ids[0], b"\7" * 32, b""]), [0, None, None])
         pairs = [(one, two) for one in all_of for two in all_of]
         self.assertEqual(graph.compare_all(pairs), [graph.compare(one, [two]) for one, two in pairs])
+        for text in ("HEAD", ids[0].hex()[:7], "g" * 40, f"{ids[0].hex()[:-1]} "):
+            with self.assertRaisesRegex(ValueError, f"^{text!r} is no id, "):
+                graph.lookup(text)
+        self.assertEqual((graph.lookup(ids[0].hex().upper()), graph.lookup("0" * 64)), (0, None))
         self.assertEqual((graph.ids([]), graph.lookup_all([]), graph.compare_all([])), ([], [], []))
         for none in (len(graph), -1, 2**32, -(2**32)):
             for refused in (lambda: graph.ids([0, none]), lambda: graph.compare_all([(0, 0), (0, none)])):
@@ -72,6 +77,8 @@ class OverGit(unittest.TestCase):
                     refused()
             for call in (graph.id, graph.tree, graph.record, graph.parents):
                 self.refused(Code.NO_SUCH_POSITION, lambda: call(none), position=none)
+                with self.assertRaisesRegex(Error, f"the graph has no such position: {none}$"):
+                    call(none)
             self.refused(Code.NO_SUCH_POSITION, lambda: graph.is_ancestor(0, none))
             self.refused(Code.NO_SUCH_POSITION, lambda: graph.compare(0, [none]))
 
@@ -204,6 +211,8 @@ class OverGit(unittest.TestCase):
         self.assertEqual((told.code, told.path), (Code.GRAPH_NO_FILES, str(chain)))
         parts = (f"{file}: the file has fewer than 1100 bytes: often it is truncated", f"{chain}: the chain file names no layer")
         self.assertEqual(str(told), f"neither the file nor the chain was opened: {'; '.join(parts)}; what to do: {told.advice}")
+        again = pickle.loads(pickle.dumps(told))
+        self.assertEqual((str(again), str(again.file), again.chain.path), (str(told), str(told.file), str(chain)))
         for part, said in zip((told.file, told.chain), parts):
             self.assertTrue(str(part).startswith(said + "; what to do: remove "), str(part))
         chain.unlink()
