@@ -1,6 +1,7 @@
 /* example PATH ID: maps the commit-graph file at the path, checks it, finds the commit of the id, and prints its record and the
  * ids of its parents. */
 #include "commitgraph.h"
+#include <errno.h>
 #include <fcntl.h>
 #include <inttypes.h>
 #include <stdio.h>
@@ -9,13 +10,23 @@
 #include <sys/stat.h>
 #include <unistd.h>
 
-/* The bytes of a file, mapped, and its path. The system maps no bytes, so that an empty file has other ones. */
+/* Why a file was not read, and what to do. */
+static void print_unread(const char *path, int why) {
+    fprintf(stderr, "%s: %s\nwhat to do: %s\n", path, strerror(why),
+            why == EISDIR ? "give the path of a file in it, `commit-graph`" : cg_advice(CG_OPEN_NOT_OPENED));
+}
+
+/* The bytes of a file, mapped, and its path; else `errno` says why there are none. The system maps no bytes, so that an empty file has
+ * other ones. */
 static bool map(const char *path, cg_file *file) {
     struct stat status;
     int fd = open(path, O_RDONLY);
     if (fd < 0) return false;
     void *at = MAP_FAILED;
-    if (fstat(fd, &status) == 0) at = status.st_size == 0 ? "" : mmap(NULL, (size_t)status.st_size, PROT_READ, MAP_PRIVATE, fd, 0);
+    if (fstat(fd, &status) == 0) {
+        if (S_ISDIR(status.st_mode)) errno = EISDIR;
+        else at = status.st_size == 0 ? "" : mmap(NULL, (size_t)status.st_size, PROT_READ, MAP_PRIVATE, fd, 0);
+    }
     close(fd);
     if (at == MAP_FAILED) return false;
     *file = (cg_file){ at, (size_t)status.st_size, (const uint8_t *)path, strlen(path) };
@@ -48,7 +59,7 @@ static int print_commit(cg_graph graph, const char *hex) {
     cg_commit commit;
     uint32_t position = cg_lookup(graph, id, bytes_of(hex, id));
     if (!cg_commit_at(graph, position, &commit)) {
-        puts("no such commit");
+        printf("no commit has the id '%s'; what to do: give a whole id, as `git rev-parse` prints it\n", hex);
         return 1;
     }
     printf("position %" PRIu32 " generation %" PRIu32 " time %" PRIu64 "\n", position, commit.generation, commit.time);
@@ -88,8 +99,7 @@ int main(int argc, char **argv) {
         return 2;
     }
     if (!map(argv[1], &file)) {
-        perror(argv[1]);
-        fprintf(stderr, "what to do: %s\n", cg_advice(CG_OPEN_NOT_OPENED));
+        print_unread(argv[1], errno);
         return 2;
     }
     cg_error error = cg_open_checked(&file, 1, false, &verdict, counts, 64, &graph);

@@ -594,9 +594,12 @@ def example(compiler, archive, scratch, graphs):
         expect(f"{compiler}: example, {kind}", (done.returncode, commits, rest) == (0, "11 commits", parents), done)
         expect(f"{compiler}: example, time", record.endswith(" time 1000000000"), done)
         refused_example(compiler, program, graph.read_bytes(), kind)
-    done = run(program, "no/such/file", ids[-1])
-    told = "no/such/file: " in done.stderr and "`git commit-graph write --reachable` makes" in done.stderr
-    expect(f"{compiler}: example, no file", done.returncode == 2 and told, done)
+        done = run(program, graph, "HEAD")
+        expect(f"{compiler}: example, no commit", done.returncode == 1 and "no commit has the id 'HEAD'; what to do: " in done.stdout, done)
+    for path, words in (("no/such/file", "`git commit-graph write --reachable` makes"), (scratch, "give the path of a file in it")):
+        done = run(program, path, ids[-1])
+        told = done.stderr.startswith(f"{path}: ") and f"\nwhat to do: {words}" in done.stderr
+        expect(f"{compiler}: example, {words}", done.returncode == 2 and told, done)
 
 
 def refused_example(compiler, program, data, kind):
