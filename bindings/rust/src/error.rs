@@ -195,12 +195,7 @@ pub struct CheckError {
 impl CheckError {
     /// What to do, with the commands to type at the top of the repository.
     pub fn advice(&self) -> &'static str {
-        match self.fault {
-            Fault::BaseCount { .. } => advice::BASE_COUNT,
-            Fault::Layer { fault: LayerFault::Checksum, .. } => advice::CHECKSUM,
-            Fault::Layer { fault: LayerFault::FileName, .. } => advice::FILE_NAME,
-            _ => advice::ANEW,
-        }
+        self.fault.advice()
     }
 }
 
@@ -282,6 +277,16 @@ pub enum Fault {
 }
 
 impl Fault {
+    /// What to do, with the commands to type at the top of the repository.
+    pub fn advice(&self) -> &'static str {
+        match self {
+            Fault::BaseCount { .. } => advice::BASE_COUNT,
+            Fault::Layer { fault: LayerFault::Checksum, .. } => advice::CHECKSUM,
+            Fault::Layer { fault: LayerFault::FileName, .. } => advice::FILE_NAME,
+            _ => advice::ANEW,
+        }
+    }
+
     /// The layer, if the fault is one of a layer as a whole.
     pub(crate) fn layer(&self) -> Option<usize> {
         match *self {
@@ -411,7 +416,7 @@ pub(crate) fn fault_of(verdict: &sys::Verdict) -> Fault {
 #[derive(Clone, Copy, Debug, PartialEq, Eq)]
 #[non_exhaustive]
 pub enum VerifyError<E> {
-    /// The graph is not right.
+    /// The graph is not right. [`Graph::check_error`](crate::Graph::check_error) tells the file and the commit.
     Fault(Fault),
     /// The processor refused a commit.
     Processor {
@@ -427,7 +432,10 @@ pub enum VerifyError<E> {
 impl<E> fmt::Display for VerifyError<E> {
     fn fmt(&self, f: &mut fmt::Formatter<'_>) -> fmt::Result {
         match self {
-            VerifyError::Fault(fault) => fault.fmt(f),
+            VerifyError::Fault(fault) => {
+                fault.fmt(f)?;
+                advice::write_after(f, fault.advice())
+            }
             VerifyError::Processor { pos, .. } => write!(f, "the processor refused the commit at position {pos}"),
             VerifyError::OutOfMemory => f.write_str(OUT_OF_MEMORY),
         }

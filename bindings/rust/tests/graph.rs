@@ -271,9 +271,11 @@ fn the_layers_are_the_files_of_the_chain() {
 #[test]
 fn each_error_is_a_sentence() {
     let pos = Position(7);
-    let sentences: [(&dyn Error, &str); 8] = [
+    let checksum = Fault::Layer { layer: 2, fault: LayerFault::Checksum };
+    let sentences: [(&dyn Error, &str); 9] = [
         (&Fault::Generation { pos, expected: 3 }, "position 7: its generation number is not 3, one more than"),
-        (&Fault::Layer { layer: 2, fault: LayerFault::Checksum }, "layer 2: the checksum is not the digest of its bytes"),
+        (&checksum, "layer 2: the checksum is not the digest of its bytes"),
+        (&VerifyError::<QueryError>::Fault(checksum), ": they were changed or lost; what to do: check the disk, "),
         (&Fault::BaseId { layer: 2, index: 1 }, "base id 1 of layer 2 is not the checksum of layer 1"),
         (&DatesError::TooLarge { pos }, "position 7: the date of the commit is 2^63 or more; what to do: remove `.git/"),
         (&ProbeError::Version { layer: 1, version: 3 }, "the version of the hash is 3, and neither 1 nor 2; what to do: write it anew,"),
