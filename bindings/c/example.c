@@ -59,7 +59,8 @@ static int print_commit(cg_graph graph, const char *hex) {
     cg_commit commit;
     uint32_t position = cg_lookup(graph, id, bytes_of(hex, id));
     if (!cg_commit_at(graph, position, &commit)) {
-        printf("no commit has the id '%s'; what to do: give a whole id, as `git rev-parse` prints it\n", hex);
+        printf("no commit has the id '%s'; what to do: give a whole id, as `git rev-parse` prints it; "
+               "if the commit is newer than the file, run `git commit-graph write --reachable`\n", hex);
         return 1;
     }
     printf("position %" PRIu32 " generation %" PRIu32 " time %" PRIu64 "\n", position, commit.generation, commit.time);
