@@ -369,11 +369,10 @@ func (p *paths) openAsked() (C.cg_graph, error) {
 	if chain == nil || file == nil || isOfMemory(chain) {
 		return raw, chain
 	}
-	raw, err := p.open(file.path, C.CG_FILE)
+	again, err := p.open(file.path, C.CG_FILE)
+	C.cg_close(again)
 	switch {
-	case err == nil:
-		return raw, nil
-	case isMissing(err) || isOfMemory(err):
+	case err == nil || isMissing(err) || isOfMemory(err):
 		return raw, chain
 	case isMissing(chain):
 		return raw, err

@@ -931,16 +931,20 @@ def _opened_asked(root: bytes, asked: bytes, known: list[_Standing]) -> _Graph:
     """The graph that was asked for. The refusal of an info folder's file is not hidden by that of its chain."""
     try:
         return _opened(root, asked, ANYTHING, known)
-    except (Error, OSError) as error:
-        chain = error
+    except (Error, OSError) as chain:
+        raise _with_file(root, asked, known, chain) from None
+
+
+def _with_file(root: bytes, asked: bytes, known: list[_Standing], chain: Exception) -> Exception:
+    """Why nothing was opened, by why the chain of an info folder was not, or what else was asked for."""
     file = next((it.path for it in known if it.path != asked and it.path.endswith(b"commit-graph")), None)
     if file is None or _is_of_memory(chain):
-        raise chain
+        return chain
     try:
-        return _opened(root, file, FILE, known)
+        _library.cg_close(_opened(root, file, FILE, known))
     except (Error, OSError) as error:
-        refusal = _of_both(error, chain)
-    raise refusal
+        return _of_both(error, chain)
+    return chain
 
 
 def _of_both(file: Exception, chain: Exception) -> Exception:

@@ -455,8 +455,8 @@ def without_warnings(crate, environment):
 def linked_anew(crate, environment, archive):
     """A newer archive is linked anew, and a folder that is named by a part of its path is found, whatever `PWD` says."""
     missing = run("cargo", "build", "--offline", cwd=crate, env={**environment, "COMMITGRAPH_LIB": "no/such/folder"})
-    told = f"there is no {crate.resolve()}/no/such/folder/libcommitgraph.a, and " in missing.stderr and "unset COMMITGRAPH_LIB and run " in missing.stderr
-    expect("Rust: a folder without the library", missing.returncode and told, missing)
+    words = (f"there is no {crate.resolve()}/no/such/folder/libcommitgraph.a, and ", "unset COMMITGRAPH_LIB and run ")
+    expect("Rust: a folder without the library", missing.returncode and all(word in missing.stderr for word in words), missing)
     for shell in ("/", str(crate), ""):
         at = {**environment, "COMMITGRAPH_LIB": "crates/commitgraph_c/out", "PWD": shell}
         done = run("cargo", "build", "--offline", "--manifest-path", crate / "Cargo.toml", cwd=crate.parent.parent, env=at)
