@@ -1,28 +1,28 @@
 //! How ids compare.
 
-ghost use Rattle.std.specs.Prelude.{◌≡◌, ℕ, ◌<◌, ◌≤◌, length, slice_index};
+ghost use Rattle.std.specs.Prelude.{◌≡◌, ◌≤◌, length};
 ghost use Rattle.std.specs.Ordering.{nat_cmp};
 ghost use Rattle.std.specs.Cmp.Lexicographic.{slice_cmp};
 
 use graph_format::integers::long_at;
 use std::cmp::Ordering;
 
-/// How two ids compare. Their first eight bytes, which hardly ever agree, are compared as numbers.
+/// How two ids compare. Eight bytes at a time are compared as numbers; the last eight may overlap
+/// those before. The first eight hardly ever agree.
 #[inline(always)]
 pub fn compare_ids(one: &[u8], other: &[u8]) -> Ordering
     requires one { 8 ≤ length one.now }
     requires same { length one.now ≡ length other.now }
-    requires one_bytes { (i : ℕ) → slice_index one.now i < 256 }
-    requires other_bytes { (i : ℕ) → slice_index other.now i < 256 }
     ensures { result ≡ slice_cmp nat_cmp one.now other.now }
 {
-    let first = long_at(one, 0);
-    let second = long_at(other, 0);
-    if first < second {
-        Ordering::Less
-    } else if second < first {
-        Ordering::Greater
-    } else {
-        one[8..].cmp(&&other[8..])
+    let last = one.len() - 8;
+    let mut at = 0;
+    while at < last {
+        let found = long_at(one, at).cmp(&long_at(other, at));
+        if found.is_ne() {
+            return found;
+        }
+        at += 8;
     }
+    long_at(one, last).cmp(&long_at(other, last))
 }

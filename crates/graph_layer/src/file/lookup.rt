@@ -63,15 +63,26 @@ impl File {
         if self.layout.kind.len_in_bytes() != size {
             return (None, comparisons);
         }
-        let (mut low, mut high) = self.bucket(wanted[0]);
-        while low < high {
-            let middle = low + (high - low) / 2;
+        let ids = self.layout.chunks.ids.start;
+        let (low, high) = self.bucket(wanted[0]);
+        // So many ids are left, the first of which begins here.
+        let mut left = (high - low) as usize;
+        let mut first = ids + size * low as usize;
+        while left > 0 {
+            let half = left / 2;
+            let middle = first + size * half;
+            let other = &self.bytes[middle..middle + size];
             comparisons += 1;
-            let other = self.id_bytes_at(middle, size);
             match compare_ids(wanted, other) {
-                Ordering::Less => high = middle,
-                Ordering::Equal => return (Some(Position(middle)), comparisons),
-                Ordering::Greater => low = middle + 1,
+                Ordering::Less => left = half,
+                Ordering::Equal => {
+                    let pos = (middle - ids) / size;
+                    return (Some(Position(pos as u32)), comparisons);
+                }
+                Ordering::Greater => {
+                    first = middle + size;
+                    left -= half + 1;
+                }
             }
         }
         (None, comparisons)

@@ -1,29 +1,25 @@
-use Rattle.std.proofs.Common.{◌-◌, ◌∙◌, ap, arith, drop, length, sym, take}
-use Rattle.std.proofs.lemmas.List.{take_rest}
-use Rattle.std.specs.Cmp.Lexicographic.{slice_cmp}
-use Rattle.std.specs.Ordering.{nat_cmp}
-use Rattle.graph_layer.proofs.IdOrderLemmas.{fronts-greater, fronts-less, fronts-same}
+use Rattle.std.proofs.Common.{◌+◌, ◌-◌, ◌∙◌, sym, ap, arith}
+use Rattle.graph_layer.proofs.IdOrderLemmas.{rests-at_first, unequal-longs, equal-longs, last-longs, rests-below}
 use Rattle.graph_layer.proofs.file.compare.compare_ids.Goals as goal
 
-pub returns-then-first-second : goal.returns-then-first-second
-returns-then-first-second c =
-    sym (fronts-less _ _ c.requires.one_bytes c.requires.other_bytes c.requires.one
-    (omega (arith, c.requires.one, c.requires.same))
-    (omega (arith, c.long_at-first.ensures, c.long_at-second.ensures, c.if-first-second.true)))
+pub loop-at-init : goal.loop-at-init
+loop-at-init c = record { within = omega arith; decide = rests-at_first _ _ }
 
-pub returns-then-second-first : goal.returns-then-second-first
-returns-then-second-first c =
-    sym (fronts-greater _ _ c.requires.one_bytes c.requires.other_bytes c.requires.one
-    (omega (arith, c.requires.one, c.requires.same))
-    (omega (arith, c.long_at-first.ensures, c.long_at-second.ensures, c.if-second-first.true)))
+pub returns-then-is_ne : goal.returns-then-is_ne
+returns-then-is_ne c =
+    unequal-longs _ _ c.loop-at.at _ _ _ (λ k. omega (arith, c.type_inv.one k)) (λ k. omega (arith, c.type_inv.other k)) (omega (arith, c.loop-at-test.true))
+    c.requires.same c.loop-at.invariant.decide c.long_at.ensures c.long_at-in-loop-at.ensures c.cmp-found.ensures
+    (sym c.is_ne.ensures ∙ c.if-is_ne.true)
 
-pub returns-else-second-first : goal.returns-else-second-first
-returns-else-second-first c =
-    let one = c.args.one.now in
-    let other = c.args.other.now in
-    c.cmp.ensures
-    ∙ ap (λ ids. slice_cmp nat_cmp ids (take (length other - 8) (drop 8 other))) (take_rest one 8)
-    ∙ ap (λ ids. slice_cmp nat_cmp (drop 8 one) ids) (take_rest other 8)
-    ∙ fronts-same one other c.requires.one_bytes c.requires.other_bytes c.requires.one
-    (omega (arith, c.requires.one, c.requires.same))
-    (omega (arith, c.long_at-first.ensures, c.long_at-second.ensures, c.if-first-second.false, c.if-second-first.false))
+pub loop-at-preserved : goal.loop-at-preserved
+loop-at-preserved c = record {
+  within = omega arith;
+  decide = equal-longs _ _ c.loop-at.at _ _ _ (λ k. omega (arith, c.type_inv.one k)) (λ k. omega (arith, c.type_inv.other k)) (omega (arith, c.loop-at-test.true))
+      c.requires.same c.loop-at.invariant.decide c.long_at.ensures c.long_at-in-loop-at.ensures c.cmp-found.ensures
+      (sym c.is_ne.ensures ∙ c.if-is_ne.false);
+}
+
+pub returns : goal.returns
+returns c =
+    last-longs _ _ _ _ _ _ (λ k. omega (arith, c.type_inv.one k)) (λ k. omega (arith, c.type_inv.other k)) (omega (arith, c.requires.one)) c.requires.same
+    (rests-below _ _ _ c.loop-at.at (omega (arith, c.loop-at-test.false)) c.loop-at.invariant.decide) c.long_at-2.ensures c.long_at-3.ensures c.cmp.ensures
