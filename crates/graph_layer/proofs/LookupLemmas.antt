@@ -1,6 +1,6 @@
 -- laws of a lookup that halves a bucket
-use Rattle.std.proofs.Common.{◌≡◌, ℕ, ◌+◌, ◌-◌, ◌*◌, ◌/◌, ◌<◌, ◌≤◌, List, length, Some, None, slice_get, slice_index, slice_range, refl, sym, ap, ◌∙◌}
-use Rattle.std.proofs.Common.{arith, ⊎_elim}
+use Rattle.std.proofs.Common.{◌≡◌, ℕ, ◌+◌, ◌-◌, ◌*◌, ◌/◌, ◌<◌, ◌≤◌, List, length, Some, None, slice_get, slice_index, slice_range}
+use Rattle.std.proofs.Common.{refl, sym, ap, ◌∙◌, arith, ⊎_elim}
 use Rattle.std.proofs.Math.Nat.{mul-add, mul-div_cancel_left}
 use Rattle.std.specs.Ordering.{ordering_reverse}
 use Rattle.std.specs.declared.cmp.Ordering.TheVariants.{Less, Equal, Greater}
@@ -8,12 +8,10 @@ use Rattle.std.proofs.lemmas.Bool.{cases_lt, eq-eqb, ne_eqb}
 use Rattle.std.proofs.lemmas.Cmp.{nat_list_cmp_total}
 use Rattle.std.proofs.lemmas.Map.Lookups.{exact_bytes}
 use Rattle.std.proofs.lemmas.Option.{same_Some}
-use Rattle.gix_hash_core.specs.declared.kind.Kind.{Kind}
 use Rattle.gix_hash_core.specs.Kind.{id_len}
 use Rattle.graph_format.specs.Layer.{Layer, decoded_layer}
 use Rattle.graph_format.specs.Layout.{IsLayout}
 use Rattle.graph_format.specs.declared.layout.Layout.{Layout}
-use Rattle.graph_format.proofs.LayoutLemmas.{view-kind}
 use Rattle.graph_format.proofs.PieceLemmas.{id_len-positive}
 use Rattle.graph_layer.proofs.BucketLemmas.{view-sized_id, view-sized_id-fits}
 use Rattle.graph_format.specs.Order.{AreAscending, IsExactFan}
@@ -120,82 +118,83 @@ found-other_len layer id differ = record {
   scanned = λ ascend exact. sym (scan-none layer.ids id (λ i here. differ i id here refl));
 }
 
--- In a search for an id: so many ids are left, the first of which begins at an offset, and the id stands nowhere else.
-pub record AreLeft (layer : Layer) (id : List ℕ) (ids size high first left : ℕ) : Type 0 where
+-- In a search for an id: so many ids are left, the first of which begins at an offset of the file's bytes, and the id stands
+-- nowhere else. They stand before a position, and the ids of the file begin at another offset.
+pub record AreLeft (bytes : List ℕ) (layer : Layer) (id : List ℕ) (ids size high first left : ℕ) : Type 0 where
+  -- the position of the first one
   pub low : ℕ
   pub begins : first ≡ ids + size * low
-  pub stands : StandsWithin layer id low (low + left)
+  pub some : 0 < size
   pub below : low + left ≤ high
-  pub within : high ≤ length layer.ids
+  pub each : (i : ℕ) → i < left
+      → slice_get layer.ids (low + i) ≡ Some (slice_range bytes (first + size * i) (first + size * i + size))
+  pub fits : (i : ℕ) → i < left → first + size * i + size ≤ length bytes
+  pub stands : StandsWithin layer id low (low + left)
 
--- where the middle one begins
-pub left-middle : (layer : Layer) (id : List ℕ) (ids size high first left : ℕ) → (here : AreLeft layer id ids size high first left)
-    → first + size * (left / 2) ≡ ids + size * (here.low + left / 2)
-left-middle layer id ids size high first left here = omega (arith, here.begins, mul-add size here.low (left / 2))
-
--- the size of ids in the file of a layout
-sized : (bytes path : List ℕ) (layout : Layout) (layer : Layer) (len size : ℕ) → IsLayout bytes layout
-    → decoded_layer bytes path ≡ layer → len ≡ id_len layout.kind → len ≡ size → size ≡ id_len layer.kind
-sized bytes path layout layer len size kept view long same =
-    sym same ∙ long ∙ ap id_len (view-kind bytes path layout layer kept view)
-
--- the bytes of the middle one
-pub left-id : {bytes : List ℕ} (path : List ℕ) {layout : Layout} {layer : Layer} {id : List ℕ} {len size high first left : ℕ}
-    → IsLayout bytes layout → decoded_layer bytes path ≡ layer → len ≡ id_len layout.kind → len ≡ size → 0 < left
-    → (here : AreLeft layer id layout.chunks.ids.start size high first left)
-    → slice_get layer.ids (here.low + left / 2)
-    ≡ Some (slice_range bytes (first + size * (left / 2)) (first + size * (left / 2) + size))
-left-id {bytes} path {layout} {layer} {id} {len} {size} {high} {first} {left} kept view long same some here =
-    rw (left-middle layer id layout.chunks.ids.start size high first left here)
-    (view-sized_id bytes path layout layer (here.low + left / 2) size kept view (omega (arith, here.below, here.within, some))
-    (sized bytes path layout layer len size kept view long same))
-
-pub left-id-fits : {bytes : List ℕ} (path : List ℕ) {layout : Layout} {layer : Layer} {id : List ℕ} {len size high first left : ℕ}
-    → IsLayout bytes layout → decoded_layer bytes path ≡ layer → len ≡ id_len layout.kind → len ≡ size → 0 < left
-    → AreLeft layer id layout.chunks.ids.start size high first left → first + size * (left / 2) + size ≤ length bytes
-left-id-fits {bytes} path {layout} {layer} {id} {len} {size} {high} {first} {left} kept view long same some here =
-    rw (left-middle layer id layout.chunks.ids.start size high first left here)
-    (view-sized_id-fits bytes path layout layer (here.low + left / 2) size kept view (omega (arith, here.below, here.within, some))
-    (sized bytes path layout layer len size kept view long same))
-
--- its position
-pub left-position : {layer : Layer} {id : List ℕ} {ids len size high first left : ℕ} (kind : Kind) → len ≡ id_len kind → len ≡ size
-    → (here : AreLeft layer id ids size high first left) → (first + size * (left / 2) - ids) / size ≡ here.low + left / 2
-left-position {layer} {id} {ids} {len} {size} {high} {first} {left} kind long same here =
-    let apart : first + size * (left / 2) - ids ≡ size * (here.low + left / 2) =
-    omega (arith, left-middle layer id ids size high first left here) in
-    ap (λ (n : ℕ). n / size) apart
-    ∙ mul-div_cancel_left (here.low + left / 2) {n = size} (omega (arith, id_len-positive kind, long, same))
-
--- those before a greater one
-pub left-before : (layer : Layer) (id other : List ℕ) (ids size high first left : ℕ) → (here : AreLeft layer id ids size high first left)
-    → 0 < left → slice_get layer.ids (here.low + left / 2) ≡ Some other → id_cmp id other ≡ Less
-    → AreLeft layer id ids size high first (left / 2)
-left-before layer id other ids size high first left here some there less = record {
-  low = here.low;
-  begins = here.begins;
-  stands = stands_within-lower layer id other here.low (here.low + left / 2) (here.low + left) here.stands there less;
-  below = omega (arith, here.below);
-  within = here.within;
-}
-
--- those after a lesser one
-pub left-after : (layer : Layer) (id other : List ℕ) (ids size high first left : ℕ) → (here : AreLeft layer id ids size high first left)
-    → 0 < left → slice_get layer.ids (here.low + left / 2) ≡ Some other → id_cmp id other ≡ Greater
-    → AreLeft layer id ids size high (first + size * (left / 2) + size) (left - (left / 2 + 1))
-left-after layer id other ids size high first left here some there greater =
-    let low = here.low + left / 2 + 1 in
-    let whole : here.low + left ≡ low + (left - (left / 2 + 1)) = omega (arith, some) in
+-- at first all of a bucket
+pub left-bucket : (bytes path : List ℕ) (layout : Layout) (layer : Layer) (id : List ℕ) (size low high : ℕ)
+    → IsLayout bytes layout → decoded_layer bytes path ≡ layer → size ≡ id_len layer.kind → low ≤ high → high ≤ length layer.ids
+    → StandsWithin layer id low high
+    → AreLeft bytes layer id layout.chunks.ids.start size high (layout.chunks.ids.start + size * low) (high - low)
+left-bucket bytes path layout layer id size low high kept view sized order within stands =
+    let start = layout.chunks.ids.start in
+    let at : (i : ℕ) → start + size * (low + i) ≡ start + size * low + size * i = λ i. omega (arith, mul-add size low i) in
+    let whole : high ≡ low + (high - low) = omega (arith, order) in
     record {
       low = low;
-      begins = omega (
-        arith,
-        left-middle layer id ids size high first left here,
-        mul-add size (here.low + left / 2) 1,
-      );
-      stands = rw (← whole) (stands_within-upper layer id other here.low (here.low + left / 2) (here.low + left) here.stands there greater);
-      below = omega (arith, here.below, some);
-      within = here.within;
+      begins = refl;
+      some = omega (arith, id_len-positive layer.kind, sized);
+      below = omega (arith, order);
+      each = λ i k.
+          rw (← at i)
+          (view-sized_id bytes path layout layer (low + i) size kept view (omega (arith, within, k)) sized);
+      fits = λ i k.
+          rw (← at i)
+          (view-sized_id-fits bytes path layout layer (low + i) size kept view (omega (arith, within, k)) sized);
+      stands = rw (← whole) stands;
     }
+
+-- then those before a greater one
+pub left-before : {bytes : List ℕ} {layer : Layer} {id other : List ℕ} {ids size high first left : ℕ} (half : ℕ)
+    → (here : AreLeft bytes layer id ids size high first left) → half < left → slice_get layer.ids (here.low + half) ≡ Some other
+    → id_cmp id other ≡ Less → AreLeft bytes layer id ids size high first half
+left-before {bytes} {layer} {id} {other} {ids} {size} {high} {first} {left} half here k there less = record {
+  low = here.low;
+  begins = here.begins;
+  some = here.some;
+  below = omega (arith, here.below, k);
+  each = λ i l. here.each i (omega arith);
+  fits = λ i l. here.fits i (omega arith);
+  stands = stands_within-lower layer id other here.low (here.low + half) (here.low + left) here.stands there less;
+}
+
+-- or after a lesser one
+pub left-after : {bytes : List ℕ} {layer : Layer} {id other : List ℕ} {ids size high first left : ℕ} (half : ℕ)
+    → (here : AreLeft bytes layer id ids size high first left) → half < left → slice_get layer.ids (here.low + half) ≡ Some other
+    → id_cmp id other ≡ Greater → AreLeft bytes layer id ids size high (first + size * half + size) (left - (half + 1))
+left-after {bytes} {layer} {id} {other} {ids} {size} {high} {first} {left} half here k there greater =
+    let low = here.low + half + 1 in
+    let whole : here.low + left ≡ low + (left - (half + 1)) = omega (arith, k) in
+    let at : (i : ℕ) → first + size * (half + 1 + i) ≡ first + size * half + size + size * i =
+    λ i. omega (arith, mul-add size (half + 1) i, mul-add size half 1) in
+    let next : (i : ℕ) → here.low + (half + 1 + i) ≡ low + i = λ i. omega arith in
+    record {
+      low = low;
+      begins = omega (arith, here.begins, mul-add size here.low (half + 1), mul-add size half 1);
+      some = here.some;
+      below = omega (arith, here.below, k);
+      each = λ i l. rw (← at i, ← next i) (here.each (half + 1 + i) (omega arith));
+      fits = λ i l. rw (← at i) (here.fits (half + 1 + i) (omega arith));
+      stands =
+          rw (← whole)
+          (stands_within-upper layer id other here.low (here.low + half) (here.low + left) here.stands there greater);
+    }
+
+-- the position of one
+pub left-position : {bytes : List ℕ} {layer : Layer} {id : List ℕ} {ids size high first left : ℕ} (half : ℕ)
+    → (here : AreLeft bytes layer id ids size high first left) → (first + size * half - ids) / size ≡ here.low + half
+left-position {bytes} {layer} {id} {ids} {size} {high} {first} {left} half here =
+    let apart : first + size * half - ids ≡ size * (here.low + half) = omega (arith, here.begins, mul-add size here.low half) in
+    ap (λ (n : ℕ). n / size) apart ∙ mul-div_cancel_left (here.low + half) {n = size} here.some
 
 pub ruleset search_laws = (stands_within-bucket, stands_within-lower, stands_within-upper, found-equal, found-none)

@@ -65,25 +65,26 @@ impl File {
         }
         let ids = self.layout.chunks.ids.start;
         let (low, high) = self.bucket(wanted[0]);
-        // So many ids are left, the first of which begins here.
+        // So many ids are left, the first of which begins at `first`. Before the middle one there
+        // are `left / 2`, and after it `(left - 1) / 2`.
         let mut left = (high - low) as usize;
         let mut first = ids + size * low as usize;
         while left > 0 {
-            let half = left / 2;
-            let middle = first + size * half;
+            let middle = first + size * (left / 2);
             let other = &self.bytes[middle..middle + size];
             comparisons += 1;
             match compare_ids(wanted, other) {
-                Ordering::Less => left = half,
+                Ordering::Less => {}
                 Ordering::Equal => {
                     let pos = (middle - ids) / size;
                     return (Some(Position(pos as u32)), comparisons);
                 }
                 Ordering::Greater => {
                     first = middle + size;
-                    left -= half + 1;
+                    left -= 1;
                 }
             }
+            left /= 2;
         }
         (None, comparisons)
     }

@@ -4,7 +4,7 @@ use Rattle.graph_layer.proofs.file.compare.compare_ids.Given as goal
 
 abbrev pub invariant-loop-at : goal.invariant-loop-at
 invariant-loop-at l = record {
-  within : l.at ≤ l.last + 7;
+  within : l.at ≤ l.last + 8;
   decide : RestsDecide l.one l.other l.at;
 }
 
