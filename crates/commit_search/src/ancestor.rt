@@ -1,7 +1,7 @@
 //! A search depth first, which finds whether there is a walk.
 
 ghost use Rattle.std.specs.Prelude.{◌≡◌, ◌⊎◌, ◌+◌, ◌-◌, ◌<◌, ◌≤◌, ℕ, length, IfOk, IfErr, OnOk};
-ghost use Rattle.std.specs.Prelude.{IsTrue, Contains, alloc_error, false};
+ghost use Rattle.std.specs.Prelude.{IfSome, IfNone, IsTrue, Contains, alloc_error, false};
 ghost use Rattle.graph_walks.specs.History.{generation_at};
 ghost use Rattle.graph_walks.specs.Walks.{CountWalks, Reaches};
 ghost use Rattle.commit_search.specs.Cardinality.{AtLeast, AtMost};
@@ -18,9 +18,9 @@ use std::alloc::AllocError;
 
 impl<M: Marks> Search<M> {
     /// Whether a walk leads from one commit to another, whose generation number is not above that
-    /// of the first, and how many commits were visited, by reading their parents. First parents are
-    /// followed first. The stack has the places of the queue that are yet to be visited; what it
-    /// held before is of no use.
+    /// of the first, and how many commits were visited, by reading their parents. `None` where more
+    /// than so many have to be. First parents are followed first. The stack has the places of the
+    /// queue that are yet to be visited; what it held before is of no use.
     pub(crate) fn reaches<S: CommitSource>(
         &mut self,
         commits: &mut S,
@@ -28,7 +28,8 @@ impl<M: Marks> Search<M> {
         from: Position,
         to: Position,
         least: u32,
-    ) -> Result<(bool, u32), S::Error>
+        most: u64,
+    ) -> Result<Option<(bool, u32)>, S::Error>
         requires idle { IsIdle self.old }
         requires from { from.0 < S.count (S.known commits.old) }
         requires least { (t : Told) → S.says commits.old t
@@ -36,16 +37,24 @@ impl<M: Marks> Search<M> {
         requires above { MayBeOfUse (S.says commits.old) least from.0 }
         ensures known { S.known commits.new ≡ S.known commits.old }
         ensures kept { (t : Told) → S.says commits.new t → S.says commits.old t }
-        ensures visits { IfOk result (λ told. told.1 ≤ S.count (S.known commits.old)) }
-        ensures once { IfOk result (λ told. (t : Told) → S.says commits.new t
-            → AtLeast told.1 (IsAtOrAbove t.history from.0 to.0)) }
-        ensures yes { IfOk result (λ told. (t : Told) → S.says commits.new t
-            → IsTrue told.0 → LeadsWithin t.history from.0 to.0 told.1) }
-        ensures no { IfOk result (λ told. (t : Told) → S.says commits.new t
-            → CountWalks t.history → Reaches t.history from.0 to.0 → IsTrue told.0) }
-        ensures above { IfOk result (λ told. (t : Told) → S.says commits.new t
-            → CountWalks t.history → told.0 ≡ false
-            → AtMost told.1 (IsAbove t.history from.0 to.0)) }
+        ensures visits { IfOk result (λ answer. IfSome answer (λ told.
+            told.1 ≤ S.count (S.known commits.old))) }
+        ensures within { IfOk result (λ answer. IfSome answer (λ told. told.1 ≤ most)) }
+        ensures once { IfOk result (λ answer. IfSome answer (λ told. (t : Told)
+            → S.says commits.new t → AtLeast told.1 (IsAtOrAbove t.history from.0 to.0))) }
+        ensures yes { IfOk result (λ answer. IfSome answer (λ told. (t : Told)
+            → S.says commits.new t → IsTrue told.0
+            → LeadsWithin t.history from.0 to.0 told.1)) }
+        ensures no { IfOk result (λ answer. IfSome answer (λ told. (t : Told)
+            → S.says commits.new t → CountWalks t.history → Reaches t.history from.0 to.0
+            → IsTrue told.0)) }
+        ensures above { IfOk result (λ answer. IfSome answer (λ told. (t : Told)
+            → S.says commits.new t → CountWalks t.history → told.0 ≡ false
+            → AtMost told.1 (IsAbove t.history from.0 to.0))) }
+        ensures fewer { IfOk result (λ answer. IfNone answer
+            (most < S.count (S.known commits.old))) }
+        ensures more { IfOk result (λ answer. IfNone answer ((t : Told) → S.says commits.new t
+            → AtLeast (most + 1) (IsAtOrAbove t.history from.0 to.0))) }
         ensures failed { IfErr result (λ e. S.may_fail (S.known commits.old) e
             ⊎ S.Error.from_gives alloc_error e) }
     {
@@ -56,7 +65,10 @@ impl<M: Marks> Search<M> {
         let mut visits: u32 = 0;
         while let Some(place) = stack.pop() {
             if self.commit_at(place) == to {
-                return Ok((true, visits));
+                return Ok(Some((true, visits)));
+            }
+            if visits as u64 >= most {
+                return Ok(None);
             }
             let reached = self.len() as u32;
             self.visit(commits, place)?;
@@ -64,7 +76,7 @@ impl<M: Marks> Search<M> {
             let end = self.len() as u32;
             push_places(stack, reached, end)?;
         }
-        Ok((false, visits))
+        Ok(Some((false, visits)))
     }
 }
 

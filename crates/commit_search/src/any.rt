@@ -1,6 +1,6 @@
 //! Answers to queries over commits that any source gives.
 
-ghost use Rattle.std.specs.Prelude.{◌≡◌, ◌≢◌, ◌⊎◌, ◌<◌, ◌≤◌, ◌∷◌, [], IfOk, IfErr, IfSome};
+ghost use Rattle.std.specs.Prelude.{◌≡◌, ◌≢◌, ◌⊎◌, ◌+◌, ◌<◌, ◌≤◌, ◌∷◌, [], IfOk, IfErr, IfSome};
 ghost use Rattle.std.specs.Prelude.{IfNone, IsTrue, alloc_error, false};
 ghost use Rattle.graph_walks.specs.History.{generation_at};
 ghost use Rattle.graph_walks.specs.Walks.{CountWalks, Reaches};
@@ -98,23 +98,69 @@ impl<M: Marks> MarkSearcher<M> {
             ⊎ (S.Error.from_gives alloc_error e × ((t : Told) → S.says commits.new t
             → (from.0 ≡ to.0) ⊎ MayLead t.history from.0 to.0))) }
     {
+        // The contract of `num_commits` says that there are no more commits than may be visited.
+        let _commits = commits.num_commits();
+        match self.ancestor_walk_within(commits, from, to, u64::MAX)? {
+            Some(reached) => Ok(reached),
+            None => unreachable!(),
+        }
+    }
+
+    /// What [`MarkSearcher::ancestor_walk`] answers, where no more commits than so many have to be
+    /// visited for it, and else `None`.
+    ///
+    /// # Errors
+    ///
+    /// Those of [`MarkSearcher::ancestor_walk`].
+    pub fn ancestor_walk_within<S: CommitSource>(
+        &mut self,
+        commits: &mut S,
+        from: Position,
+        to: Position,
+        most: u64,
+    ) -> Result<Option<Reached>, S::Error>
+        requires from { from.0 < S.count (S.known commits.old) }
+        requires to { to.0 < S.count (S.known commits.old) }
+        ensures known { S.known commits.new ≡ S.known commits.old }
+        ensures kept { (t : Told) → S.says commits.new t → S.says commits.old t }
+        ensures visits { IfOk result (λ answer. IfSome answer (λ reached.
+            reached.visits ≤ S.count (S.known commits.old))) }
+        ensures within { IfOk result (λ answer. IfSome answer (λ reached.
+            reached.visits ≤ most)) }
+        ensures answer { IfOk result (λ answer. IfSome answer (λ reached. (t : Told)
+            → S.says commits.new t → IsAnyAnswer t.history from.0 to.0 reached)) }
+        ensures right { IfOk result (λ answer. IfSome answer (λ reached. (t : Told)
+            → S.says commits.new t → CountWalks t.history
+            → IsAnswer t.history from.0 to.0 reached)) }
+        ensures fewer { IfOk result (λ answer. IfNone answer
+            (most < S.count (S.known commits.old))) }
+        ensures more { IfOk result (λ answer. IfNone answer ((t : Told) → S.says commits.new t
+            → AtLeast (most + 1) (IsAtOrAbove t.history from.0 to.0))) }
+        ensures refused { IfErr result (λ e.
+            ((from.0 ≢ to.0) × S.may_fail (S.known commits.old) e)
+            ⊎ (S.Error.from_gives alloc_error e × ((t : Told) → S.says commits.new t
+            → (from.0 ≡ to.0) ⊎ MayLead t.history from.0 to.0))) }
+    {
         generations_never_rise_along_walks();
         // The contract of `num_commits` says how many commits the source tells of.
         let _commits = commits.num_commits();
         if from == to {
+            if most == 0 {
+                return Ok(None);
+            }
             let walk = walk_of(self.search.alloc(), from)?;
-            return Ok(Reached {
+            return Ok(Some(Reached {
                 walk: Some(walk),
                 visits: 1,
-            });
+            }));
         }
         let Some(least) = least_number(commits, from, to)? else {
-            return Ok(Reached {
+            return Ok(Some(Reached {
                 walk: None,
                 visits: 0,
-            });
+            }));
         };
-        let reached = self.search.shortest_walk(commits, from, to, least);
+        let reached = self.search.shortest_walk(commits, from, to, least, most);
         self.search.clear();
         reached
     }
@@ -189,19 +235,72 @@ impl<M: Marks> MarkSearcher<M> {
             ⊎ (S.Error.from_gives alloc_error e × ((t : Told) → S.says commits.new t
             → MayLead t.history descendant.0 ancestor.0)))) }
     {
+        // The contract of `num_commits` says that there are no more commits than may be visited.
+        let _commits = commits.num_commits();
+        match self.is_ancestor_within(commits, ancestor, descendant, u64::MAX)? {
+            Some(told) => Ok(told),
+            None => unreachable!(),
+        }
+    }
+
+    /// What [`MarkSearcher::is_ancestor_counted`] answers, where no more commits than so many have
+    /// to be visited for it, and else `None`.
+    ///
+    /// # Errors
+    ///
+    /// Those of [`MarkSearcher::is_ancestor`].
+    pub fn is_ancestor_within<S: CommitSource>(
+        &mut self,
+        commits: &mut S,
+        ancestor: Position,
+        descendant: Position,
+        most: u64,
+    ) -> Result<Option<(bool, u32)>, S::Error>
+        requires ancestor { ancestor.0 < S.count (S.known commits.old) }
+        requires descendant { descendant.0 < S.count (S.known commits.old) }
+        ensures known { S.known commits.new ≡ S.known commits.old }
+        ensures kept { (t : Told) → S.says commits.new t → S.says commits.old t }
+        ensures visits { IfOk result (λ answer. IfSome answer (λ told.
+            told.1 ≤ S.count (S.known commits.old))) }
+        ensures within { IfOk result (λ answer. IfSome answer (λ told. told.1 ≤ most)) }
+        ensures once { IfOk result (λ answer. IfSome answer (λ told. (t : Told)
+            → S.says commits.new t
+            → AtLeast told.1 (IsAtOrAbove t.history descendant.0 ancestor.0))) }
+        ensures none { IfOk result (λ answer. IfSome answer (λ told. (t : Told)
+            → S.says commits.new t
+            → (descendant.0 ≡ ancestor.0) ⊎ ¬ MayLead t.history descendant.0 ancestor.0
+            → told.1 ≡ 0)) }
+        ensures yes { IfOk result (λ answer. IfSome answer (λ told. (t : Told)
+            → S.says commits.new t → IsTrue told.0
+            → LeadsWithin t.history descendant.0 ancestor.0 told.1)) }
+        ensures no { IfOk result (λ answer. IfSome answer (λ told. (t : Told)
+            → S.says commits.new t → CountWalks t.history
+            → Reaches t.history descendant.0 ancestor.0 → IsTrue told.0)) }
+        ensures above { IfOk result (λ answer. IfSome answer (λ told. (t : Told)
+            → S.says commits.new t → CountWalks t.history → told.0 ≡ false
+            → AtMost told.1 (IsAbove t.history descendant.0 ancestor.0))) }
+        ensures fewer { IfOk result (λ answer. IfNone answer
+            (most < S.count (S.known commits.old))) }
+        ensures more { IfOk result (λ answer. IfNone answer ((t : Told) → S.says commits.new t
+            → AtLeast (most + 1) (IsAtOrAbove t.history descendant.0 ancestor.0))) }
+        ensures refused { IfErr result (λ e. (descendant.0 ≢ ancestor.0)
+            × (S.may_fail (S.known commits.old) e
+            ⊎ (S.Error.from_gives alloc_error e × ((t : Told) → S.says commits.new t
+            → MayLead t.history descendant.0 ancestor.0)))) }
+    {
         generations_never_rise_along_walks();
         // The contract of `num_commits` says how many commits the source tells of.
         let _commits = commits.num_commits();
         if descendant == ancestor {
-            return Ok((true, 0));
+            return Ok(Some((true, 0)));
         }
         let Some(least) = least_number(commits, descendant, ancestor)? else {
-            return Ok((false, 0));
+            return Ok(Some((false, 0)));
         };
         let stack = &mut self.stack;
         let told = self
             .search
-            .reaches(commits, stack, descendant, ancestor, least);
+            .reaches(commits, stack, descendant, ancestor, least, most);
         self.search.clear();
         told
     }

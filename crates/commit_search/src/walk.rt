@@ -1,10 +1,11 @@
 //! A search breadth first, which finds shortest walks.
 
-ghost use Rattle.std.specs.Prelude.{◌≡◌, ◌⊎◌, ◌+◌, ◌<◌, ◌≤◌, ℕ, List, length, IfOk, IfErr};
-ghost use Rattle.std.specs.Prelude.{alloc_error};
+ghost use Rattle.std.specs.Prelude.{◌≡◌, ◌⊎◌, ◌+◌, ◌<◌, ◌≤◌, ℕ, List, length, IfOk, IfErr, IfSome};
+ghost use Rattle.std.specs.Prelude.{IfNone, alloc_error};
 ghost use Rattle.graph_walks.specs.History.{Node, generation_at};
 ghost use Rattle.graph_walks.specs.Walks.{CountWalks, IsWalkBetween};
-ghost use Rattle.commit_search.specs.WalkAnswer.{IsAnyAnswer, IsAnswer, MayLead};
+ghost use Rattle.commit_search.specs.Cardinality.{AtLeast};
+ghost use Rattle.commit_search.specs.WalkAnswer.{IsAnyAnswer, IsAnswer, IsAtOrAbove, MayLead};
 ghost use Rattle.commit_search.specs.Positions.{numbers_of};
 ghost use Rattle.commit_search.specs.Queue.{commit_in, child_in, IsQueue, Depth};
 ghost use Rattle.commit_search.specs.Search.{queued_by, IsIdle, MayBeOfUse};
@@ -21,14 +22,16 @@ use std::alloc::AllocError;
 
 impl<M: Marks> Search<M> {
     /// A shortest walk from one commit to another, whose generation number is below that of the
-    /// first, or at the cap as that is.
+    /// first, or at the cap as that is. `None` where more commits than so many have to be visited
+    /// for it.
     pub(crate) fn shortest_walk<S: CommitSource>(
         &mut self,
         commits: &mut S,
         from: Position,
         to: Position,
         least: u32,
-    ) -> Result<Reached, S::Error>
+        most: u64,
+    ) -> Result<Option<Reached>, S::Error>
         requires idle { IsIdle self.old }
         requires from { from.0 < S.count (S.known commits.old) }
         requires least { (t : Told) → S.says commits.old t
@@ -37,12 +40,19 @@ impl<M: Marks> Search<M> {
         requires allowed { (t : Told) → S.says commits.old t → MayLead t.history from.0 to.0 }
         ensures known { S.known commits.new ≡ S.known commits.old }
         ensures kept { (t : Told) → S.says commits.new t → S.says commits.old t }
-        ensures visits { IfOk result (λ reached.
-            reached.visits ≤ S.count (S.known commits.old)) }
-        ensures answer { IfOk result (λ reached. (t : Told) → S.says commits.new t
-            → IsAnyAnswer t.history from.0 to.0 reached) }
-        ensures right { IfOk result (λ reached. (t : Told) → S.says commits.new t
-            → CountWalks t.history → IsAnswer t.history from.0 to.0 reached) }
+        ensures visits { IfOk result (λ answer. IfSome answer (λ reached.
+            reached.visits ≤ S.count (S.known commits.old))) }
+        ensures within { IfOk result (λ answer. IfSome answer (λ reached.
+            reached.visits ≤ most)) }
+        ensures answer { IfOk result (λ answer. IfSome answer (λ reached. (t : Told)
+            → S.says commits.new t → IsAnyAnswer t.history from.0 to.0 reached)) }
+        ensures right { IfOk result (λ answer. IfSome answer (λ reached. (t : Told)
+            → S.says commits.new t → CountWalks t.history
+            → IsAnswer t.history from.0 to.0 reached)) }
+        ensures fewer { IfOk result (λ answer. IfNone answer
+            (most < S.count (S.known commits.old))) }
+        ensures more { IfOk result (λ answer. IfNone answer ((t : Told) → S.says commits.new t
+            → AtLeast (most + 1) (IsAtOrAbove t.history from.0 to.0))) }
         ensures failed { IfErr result (λ e. S.may_fail (S.known commits.old) e
             ⊎ S.Error.from_gives alloc_error e) }
     {
@@ -51,19 +61,22 @@ impl<M: Marks> Search<M> {
         let mut ahead = Ahead::new(self.alloc());
         let mut visits: u32 = 0;
         while (visits as usize) < self.len() {
+            if visits as u64 >= most {
+                return Ok(None);
+            }
             let place = visits;
             visits += 1;
             if self.commit_at(place) == to {
                 let walk = self.walk_to(place)?;
-                return Ok(Reached {
+                return Ok(Some(Reached {
                     walk: Some(walk),
                     visits,
-                });
+                }));
             }
             let (fields, number) = self.fields_at(commits, place, &mut ahead)?;
             self.visit_known(commits, fields, number, place)?;
         }
-        Ok(Reached { walk: None, visits })
+        Ok(Some(Reached { walk: None, visits }))
     }
 
     /// The walk by which the commit at a place of the queue was reached.

@@ -1,4 +1,4 @@
-use Rattle.std.proofs.Common.{◌≡◌, ◌⊎◌, ◌≤◌, ◌<◌, ℕ, List, length, Contains, refl, sym, ap, ◌∙◌, subst, inl, inr}
+use Rattle.std.proofs.Common.{◌≡◌, ◌⊎◌, ◌+◌, ◌≤◌, ◌<◌, ℕ, List, length, Contains, refl, sym, ap, ◌∙◌, inl, inr}
 use Rattle.std.proofs.Common.{subst₂, ⊎_elim, eqb-true, eq-eqb, arith}
 use Rattle.std.proofs.lemmas.Bool.{false≢true}
 use Rattle.std.proofs.lemmas.List.{length_push}
@@ -44,6 +44,7 @@ loop-place-init g c =
       first = ap (λ (xs : List Marked). commit_in xs 0) e.first;
       places = places_begin (queued_by s) stack one only first;
       counted = omega (arith, one, c.in_ok-push_places.ensures.len, ap length c.clear.ensures.items);
+      within = omega arith;
       shallow = shallow_begins (queued_by s) one;
       descent = λ t said. descent_begins (queued_by s) stack one only first t.history s.least c.args.to.0;
     }
@@ -77,6 +78,34 @@ returns-then-eq-clause-yes g c = λ t said found.
     queued_is_led_to t.history l.self.least (queued_by l.self) (queue_told _ _ l.self t said inv.search) c.in-Some.place l.visits
     lt (λ d depth. inv.shallow c.in-Some.place d lt depth) in
     subst₂ (λ (p q : ℕ). LeadsWithin t.history p q l.visits) inv.first at led
+
+pub returns-then-visits-most-clause-fewer : goal.returns-then-visits-most-clause-fewer
+returns-then-visits-most-clause-fewer g c =
+    let l = c.loop-place in
+    let inv = l.invariant in
+    omega (
+      arith,
+      c.if-visits-most.true,
+      inv.counted,
+      length-queued _ _ _ (queued_by l.self) inv.search.queue,
+      ap length c.in-Some.ensures.items,
+      length_push c.pop.new.self.items c.in-Some.place,
+    )
+
+pub returns-then-visits-most-clause-more : goal.returns-then-visits-most-clause-more
+returns-then-visits-most-clause-more g c = λ t said.
+    let l = c.loop-place in
+    let inv = l.invariant in
+    each_at_or_above t.history l.self.least c.args.from.0 c.args.to.0 (queued_by l.self) (c.args.most + 1)
+    (queue_told _ _ l.self t said inv.search) inv.first
+    (omega (arith, inv.least, c.requires.least t (inv.kept t said)))
+    (omega (
+      arith,
+      c.if-visits-most.true,
+      inv.counted,
+      ap length c.in-Some.ensures.items,
+      length_push c.pop.new.self.items c.in-Some.place,
+    ))
 
 pub overflow_cast-reached : goal.overflow_cast-reached
 overflow_cast-reached g c =
@@ -179,6 +208,7 @@ loop-place-preserved g c =
         ap length c.in-Some.ensures.items,
         length_push c.pop.new.self.items c.in-Some.place,
       );
+      within = omega (arith, c.if-visits-most.false);
       shallow = shallow_goes_on (queued_by l.self) (queued_by s) c.in-Some.place on.extends inv.search.queue.earlier l.visits
           (taken_within (queued_by l.self) l.stack.items c.pop.new.self.items c.in-Some.place c.in-Some.ensures.items inv.places)
           inv.shallow;

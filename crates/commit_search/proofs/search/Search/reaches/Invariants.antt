@@ -1,4 +1,4 @@
-use Rattle.std.proofs.Common.{◌≡◌, ◌+◌, ◌-◌, ◌<◌, length}
+use Rattle.std.proofs.Common.{◌≡◌, ◌+◌, ◌-◌, ◌<◌, ◌≤◌, length}
 use Rattle.commit_search.specs.Queue.{commit_in}
 use Rattle.commit_search.specs.Search.{queued_by, IsSearching, AreRead}
 use Rattle.commit_search.specs.Source.{Told}
@@ -19,6 +19,7 @@ invariant-loop-place g l =
       first : commit_in (queued_by l.self) 0 ≡ l.fn.from.0;
       places : ArePlaces (queued_by l.self) l.stack.items;
       counted : l.visits + length l.stack.items ≡ length (queued_by l.self);
+      within : l.visits ≤ l.most;
       shallow : AreShallow (queued_by l.self) l.visits;
       descent : (t : Told) → says t → IsDescent t.history l.self.least l.to.0 (queued_by l.self) l.stack.items;
     }

@@ -32,6 +32,7 @@ loop-visits-init g c =
       query = query_begins (source.count (source.known c.args.commits.now)) says c.args.from.0 c.args.to.0 s search
           (nothing_read says s c.begin.ensures.words) e.first
           (λ t said. c.begin.ensures.least ∙ c.requires.least t said);
+      within = omega arith;
     }
 
 pub overflow_add-visits : goal.overflow_add-visits
@@ -86,6 +87,7 @@ loop-visits-preserved g c =
           (λ t said. c.fields_at.ensures.kept t (c.visit_known.ensures.kept t said))
           c.visit_known.new.self here other visit.goes_on (rw (c.fields_at.ensures.known, inv.known) at visit.search) visit.read
           visit.parents;
+      within = omega (arith, c.if-visits-most.false);
     }
 
 pub returns-then-eq-clause-answer : goal.returns-then-eq-clause-answer
@@ -165,3 +167,21 @@ pub returns-clause-visits : goal.returns-clause-visits
 returns-clause-visits g c =
     let l = c.loop-visits in
     omega (arith, queued_within _ _ _ _ l.self l.visits l.invariant.query, l.invariant.query.taken)
+
+pub returns-then-visits-most-clause-fewer : goal.returns-then-visits-most-clause-fewer
+returns-then-visits-most-clause-fewer g c =
+    let l = c.loop-visits in
+    omega (
+      arith,
+      c.if-visits-most.true,
+      queued_within _ _ _ _ l.self l.visits l.invariant.query,
+      c.loop-visits-test.true,
+      c.len.ensures,
+    )
+
+pub returns-then-visits-most-clause-more : goal.returns-then-visits-most-clause-more
+returns-then-visits-most-clause-more g c = λ t said.
+    let l = c.loop-visits in
+    let query = query_told _ _ _ _ l.self l.visits l.invariant.query t said in
+    all_at_or_above t.history c.args.from.0 c.args.to.0 l.self l.visits query (c.args.most + 1)
+    (omega (arith, c.if-visits-most.true, c.loop-visits-test.true, c.len.ensures))

@@ -1,4 +1,4 @@
-use Rattle.std.proofs.Common.{◌≡◌, ◌-◌}
+use Rattle.std.proofs.Common.{◌≡◌, ◌-◌, ◌≤◌}
 use Rattle.commit_search.specs.Search.{AreAhead}
 use Rattle.commit_search.specs.Source.{Told}
 use Rattle.commit_search.proofs.QueryLemmas.{IsQuerying}
@@ -14,6 +14,7 @@ invariant-loop-visits g l =
       kept : (t : Told) → says t → source.says l.fn.commits t;
       ahead : AreAhead (source.count k) (source.is_listed k) (source.lies k) says l.self l.ahead;
       query : IsQuerying (source.count k) says l.fn.from.0 l.to.0 l.self l.visits;
+      within : l.visits ≤ l.most;
     }
 
 abbrev pub decreases-loop-visits : goal.decreases-loop-visits

@@ -1,9 +1,18 @@
-use Rattle.std.proofs.Common.{◌≡◌, ◌<◌, ℕ, List, ◌∷◌, [], length, refl, sym, ap, subst, eqb-true, arith}
+use Rattle.std.proofs.Common.{◌≡◌, ◌+◌, ◌<◌, ℕ, List, ◌∷◌, [], length, refl, sym, ap, subst, eqb-true, arith}
 use Rattle.graph_walks.specs.Walks.{IsWalkBetween}
+use Rattle.commit_search.specs.Cardinality.{AtLeast}
 use Rattle.commit_search.specs.WalkAnswer.{IsShortestWalk, IsAtOrAbove}
 use Rattle.commit_search.specs.Positions.{numbers_of}
 use Rattle.commit_search.proofs.KnownAnswerLemmas.{one_walk, one_is_shortest, one_is_visited, none_is_visited, none_is_above}
-use Rattle.commit_search.proofs.any.MarkSearcher.ancestor_walk.Goals as goal
+use Rattle.commit_search.proofs.any.MarkSearcher.ancestor_walk_within.Goals as goal
+
+pub returns-then-most-eq0-clause-more : goal.returns-then-most-eq0-clause-more
+returns-then-most-eq0-clause-more g c = λ t said.
+    let same : c.args.from.0 ≡ c.args.to.0 = eqb-true _ _ (sym c.if-eq.ensures) in
+    let none : 0 ≡ c.args.most = sym c.if-most-eq0.true in
+    let told = c.num_commits-commits.ensures.told t said in
+    subst (λ (n : ℕ). AtLeast (n + 1) (IsAtOrAbove t.history c.args.from.0 c.args.to.0)) none
+    (one_is_visited t.history c.args.from.0 c.args.to.0 same (omega arith))
 
 pub returns-then-eq-clause-answer : goal.returns-then-eq-clause-answer
 returns-then-eq-clause-answer g c = λ t said.

@@ -1,7 +1,7 @@
 use Rattle.std.proofs.Common.{ℕ, ◌∷◌, [], sym, eqb-true, arith}
 use Rattle.commit_search.specs.WalkAnswer.{IsAtOrAbove}
 use Rattle.commit_search.proofs.KnownAnswerLemmas.{one_walk, none_is_visited, none_is_above}
-use Rattle.commit_search.proofs.any.MarkSearcher.is_ancestor_counted.Goals as goal
+use Rattle.commit_search.proofs.any.MarkSearcher.is_ancestor_within.Goals as goal
 
 pub returns-then-eq-clause-once : goal.returns-then-eq-clause-once
 returns-then-eq-clause-once g c = λ t said. none_is_visited (IsAtOrAbove t.history c.args.descendant.0 c.args.ancestor.0)
