@@ -6,7 +6,7 @@ use Rattle.std.specs.List.{range_with_len}
 use Rattle.std.proofs.lemmas.List.FromFn.{length-range_with_len}
 use Rattle.graph_walks.specs.Walks.{CountWalks, Reaches}
 use Rattle.graph_format.specs.Layer.{Layer}
-use Rattle.graph_format.specs.Points.{Accepts, Agrees, PassesAll, Point, StopsAtCall, call, calls, first_fault}
+use Rattle.graph_format.specs.Points.{Accepts, Agrees, PassesAll, StopsAtCall, call, calls}
 use Rattle.graph_format.specs.StoredHistory.{history_of}
 use Rattle.graph_format.proofs.PointLemmas.{calls-append}
 use Rattle.gix_commitgraph.specs.Distinct.{IsDeservedWith}
@@ -20,7 +20,7 @@ use Rattle.gix_commitgraph.specs.declared.verify.VerifyOptions.{VerifyOptions}
 use Rattle.commit_search.specs.Cardinality.{AtMost}
 use Rattle.commit_search.specs.WalkAnswer.{IsAbove, LeadsWithin, MayLead}
 use Rattle.commit_search.specs.Source.{Told, told_of}
-use Rattle.graph_history.specs.Limits.{Bound, EndsEarly, IfSource, IsSource, IsToldWithin, MayBeStopped, MayRefuseWithin}
+use Rattle.graph_history.specs.Limits.{Bound, EndsEarly, IfSource, IsSource, IsToldWithin, MayRefuseWithin}
 use Rattle.graph_history.specs.Limits.{StopsAfter}
 use Rattle.graph_history.specs.declared.limit.LimitError.{LimitError}
 use Rattle.graph_history.specs.declared.limit.LimitError.TheVariants as limited
@@ -52,19 +52,19 @@ module _ (layers after : List Layer) (same : after ≡ layers) (from to : ℕ) w
   )
 
   -- or it was stopped
-  module _ {E : Type 0} (bound : Bound) (most : ℕ) (may : MayBeStopped bound most) (Gives : E → Type 0) where
+  module _ {E : Type 0} (Stops : Type 0) (stops : Stops) (Gives : E → Type 0) where
     pub walk_ended : (e : LimitError E)
         → ((from ≢ to) × IfSource (λ x. ⊥) e)
         ⊎ (IsSource Gives e × ((t : Told) → t ≡ told_of after → (from ≡ to) ⊎ MayLead t.history from to))
-        → EndsEarly bound most ((from ≡ to) ⊎ MayLead (history_of layers) from to) e
-    walk_ended limited.Stopped told = may
+        → EndsEarly Stops ((from ≡ to) ⊎ MayLead (history_of layers) from to) e
+    walk_ended limited.Stopped told = stops
     walk_ended (limited.Source e) told = walk_error (Gives e) told
 
     pub lead_ended : (e : LimitError E)
         → (from ≢ to) × (IfSource (λ x. ⊥) e
         ⊎ (IsSource Gives e × ((t : Told) → t ≡ told_of after → MayLead t.history from to)))
-        → EndsEarly bound most ((from ≢ to) × MayLead (history_of layers) from to) e
-    lead_ended limited.Stopped told = may
+        → EndsEarly Stops ((from ≢ to) × MayLead (history_of layers) from to) e
+    lead_ended limited.Stopped told = stops
     lead_ended (limited.Source e) told = lead_error (Gives e) told
 
   -- what was found after so many visits
@@ -87,10 +87,9 @@ module _ (layers after : List Layer) (same : after ≡ layers) (from to : ℕ) w
     }
 
 -- what ends a comparison before its end
-pub comparison_ended : {E : Type 0} (bound : Bound) (most : ℕ) → MayBeStopped bound most → (e : LimitError E)
-    → EndsEarly bound most ⊤ e
-comparison_ended bound most may limited.Stopped = may
-comparison_ended bound most may (limited.Source e) = tt
+pub comparison_ended : {E : Type 0} (Stops : Type 0) → Stops → (e : LimitError E) → EndsEarly Stops ⊤ e
+comparison_ended Stops stops limited.Stopped = stops
+comparison_ended Stops stops (limited.Source e) = tt
 
 -- the number at a place of a range
 range_at : (k n : ℕ) (before : List ℕ) (p : ℕ) (after : List ℕ) → range_with_len k n ≡ before ++ p ∷ after

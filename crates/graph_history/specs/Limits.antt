@@ -1,5 +1,5 @@
 -- When a search or a check is stopped before its end.
-use Rattle.std.specs.Prelude.{◌≡◌, ◌⊎◌, ◌<◌, ◌≤◌, ℕ, List, Bool, false, Some, is_some, IsTrue, ⊤}
+use Rattle.std.specs.Prelude.{◌≡◌, ◌⊎◌, ◌+◌, ◌<◌, ◌≤◌, ℕ, List, Bool, false, Some, is_some, IsTrue, ⊤}
 use Rattle.graph_walks.specs.History.{Node}
 use Rattle.graph_format.specs.Layer.{Layer}
 use Rattle.graph_format.specs.Points.{first_fault}
@@ -9,8 +9,8 @@ use Rattle.gix_commitgraph.specs.Verify.{points_with}
 use Rattle.gix_commitgraph.specs.declared.verify.VerifyError.{VerifyError}
 use Rattle.gix_commitgraph.specs.declared.verify.VerifyError.TheVariants as error
 use Rattle.gix_commitgraph.specs.declared.verify.VerifyOptions.{VerifyOptions}
-use Rattle.commit_search.specs.Cardinality.{AtMost}
-use Rattle.commit_search.specs.WalkAnswer.{IsAbove, LeadsWithin}
+use Rattle.commit_search.specs.Cardinality.{AtLeast, AtMost}
+use Rattle.commit_search.specs.WalkAnswer.{IsAbove, IsAtOrAbove, LeadsWithin}
 use Rattle.graph_history.specs.declared.limit.Limit.{Limit}
 use Rattle.graph_history.specs.declared.limit.LimitError.{LimitError}
 use Rattle.graph_history.specs.declared.limit.LimitError.TheVariants as limited
@@ -32,10 +32,15 @@ StopsAfter bound visits = (bound.visits ≤ visits) ⊎ IsTrue bound.flagged
 abbrev pub MayBeStopped : Bound → ℕ → Type 0
 MayBeStopped bound most = (bound.visits < most) ⊎ IsTrue bound.flagged
 
--- a search that visits at most so many commits has no answer: it may be stopped; or an allocation failed, and P holds
-abbrev pub EndsEarly : {E : Type 0} → Bound → ℕ → Type 0 → LimitError E → Type 0
-EndsEarly bound most P limited.Stopped = MayBeStopped bound most
-EndsEarly bound most P (limited.Source e) = P
+-- a search for a walk from one commit to another may be stopped: the first reaches more commits than may be visited whose
+-- generation numbers are at least that of the other, or there is a flag
+abbrev pub SearchMayBeStopped : Bound → List Node → ℕ → ℕ → Type 0
+SearchMayBeStopped bound history from to = AtLeast (bound.visits + 1) (IsAtOrAbove history from to) ⊎ IsTrue bound.flagged
+
+-- a search has no answer: it was stopped, and Stops holds; or an allocation failed, and Fails holds
+abbrev pub EndsEarly : {E : Type 0} → Type 0 → Type 0 → LimitError E → Type 0
+EndsEarly Stops Fails limited.Stopped = Stops
+EndsEarly Stops Fails (limited.Source e) = Fails
 
 -- Whether a walk leads from one commit to another may be told once n commits were visited, by reading their parents.
 pub record IsToldWithin (n : ℕ) (history : List Node) (from to : ℕ) (found : Bool) : Type 0 where

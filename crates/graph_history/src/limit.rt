@@ -1,6 +1,6 @@
 //! Limits of searches and of checks, and flags that stop them.
 
-ghost use Rattle.std.specs.Prelude.{◌≡◌, ◌<◌, ◌≤◌, false, IsTrue, None};
+ghost use Rattle.std.specs.Prelude.{◌≡◌, ◌-◌, ◌^◌, ◌<◌, ◌≤◌, false, IsTrue, None};
 ghost use Rattle.graph_history.specs.Limits.{MayBeStopped, StopsAfter, bound_of};
 
 use std::alloc::AllocError;
@@ -64,12 +64,13 @@ impl<'f> Limit<'f> {
         }
     }
 
-    /// A limit of so many visits more, with the same flag.
-    pub(crate) fn with_more(self, visits: u64) -> Limit<'f>
-        ensures { result.flag ≡ self.entry.flag }
+    /// The same flag alone, with which any number of commits may be visited.
+    pub(crate) fn flag_alone(self) -> Limit<'f>
+        ensures flag { result.flag ≡ self.entry.flag }
+        ensures visits { result.visits ≡ 2 ^ 64 - 1 }
     {
         Limit {
-            visits: self.visits.saturating_add(visits),
+            visits: u64::MAX,
             ..self
         }
     }

@@ -1,15 +1,17 @@
 //! Searches and checks within a limit.
 
-ghost use Rattle.std.specs.Prelude.{◌≡◌, ◌≢◌, ◌⊎◌, ◌↔◌, ◌*◌, ◌<◌, ◌≤◌, All, IfErr, IfOk, IsTrue, ⊤};
+ghost use Rattle.std.specs.Prelude.{◌≡◌, ◌≢◌, ◌⊎◌, ◌↔◌, ◌+◌, ◌*◌, ◌<◌, ◌≤◌, All, IfErr, IfOk};
+ghost use Rattle.std.specs.Prelude.{IsTrue, ⊤};
 ghost use Rattle.graph_walks.specs.Walks.{Reaches};
 ghost use Rattle.graph_format.specs.StoredHistory.{history_of};
 ghost use Rattle.gix_commitgraph.specs.Distinct.{IsSoundWith};
 ghost use Rattle.gix_commitgraph.specs.Graph.{total};
-ghost use Rattle.commit_search.specs.WalkAnswer.{IsAnswer, MayLead};
+ghost use Rattle.commit_search.specs.Cardinality.{AtLeast};
+ghost use Rattle.commit_search.specs.WalkAnswer.{IsAnswer, IsAtOrAbove, MayLead};
 ghost use Rattle.commit_search.specs.Positions.{numbers_of};
 ghost use Rattle.graph_history.specs.GraphComparison.{IsComparisonOf};
-ghost use Rattle.graph_history.specs.Limits.{EndsEarly, IsSource, IsToldWithin, MayRefuseWithin};
-ghost use Rattle.graph_history.specs.Limits.{bound_of};
+ghost use Rattle.graph_history.specs.Limits.{EndsEarly, IsSource, IsToldWithin, MayBeStopped};
+ghost use Rattle.graph_history.specs.Limits.{MayRefuseWithin, SearchMayBeStopped, bound_of};
 
 use crate::checked::Checked;
 use crate::limit::{Limit, LimitError, Stopped};
@@ -24,18 +26,16 @@ use graph_ancestors::{InMemory, Reached};
 use graph_bases::{AnyComparer, Comparison};
 use std::alloc::{AllocError, Global};
 
-/// How many commits a search breadth first has read at most past the one that it visits.
-const AHEAD: u64 = 63;
-
 impl<'g> Checked<'g> {
     /// What [`Checked::ancestor_walk`] answers, where no more commits are visited for it than the
     /// limit allows.
     ///
     /// # Errors
     ///
-    /// `Stopped`, where more would have to be visited, or the flag was raised; never where the
-    /// limit allows all commits of the graph and has no flag. `Source`, where an allocation failed,
-    /// as in [`Checked::ancestor_walk`].
+    /// `Stopped`, where more would have to be visited, or the flag was raised. Without a flag it
+    /// comes only where `from` reaches more commits than the limit allows whose generation numbers
+    /// are at least that of `to`. `Source`, where an allocation failed, as in
+    /// [`Checked::ancestor_walk`].
     pub fn ancestor_walk_within(
         &self,
         alloc: Global,
@@ -47,37 +47,42 @@ impl<'g> Checked<'g> {
         requires to { to.0 < total self.now.layers }
         ensures answer { IfOk result (IsAnswer (history_of self.now.layers) from.0 to.0) }
         ensures within { IfOk result (λ reached. reached.visits ≤ limit.entry.visits) }
-        ensures refused { IfErr result (EndsEarly (bound_of limit.entry) (total self.now.layers)
+        ensures refused { IfErr result (EndsEarly
+            (SearchMayBeStopped (bound_of limit.entry) (history_of self.now.layers) from.0 to.0)
             ((from.0 ≡ to.0) ⊎ MayLead (history_of self.now.layers) from.0 to.0)) }
     {
-        if limit.allows(self.graph.num_commits() as u64) {
-            return self.whole_walk(alloc, from, to);
+        let most = limit.visits;
+        if limit.flag.is_none() {
+            return self.unflagged_walk(alloc, from, to, most);
         }
-        let mut commits = Limited::new(InMemory::new(self.graph), limit.with_more(AHEAD));
-        match FewSearcher::new(alloc).ancestor_walk(&mut commits, from, to) {
-            Ok(reached) if reached.visits as u64 <= limit.visits => Ok(reached),
-            Ok(_) => Err(LimitError::Stopped),
+        let mut commits = Limited::new(InMemory::new(self.graph), limit.flag_alone());
+        match FewSearcher::new(alloc).ancestor_walk_within(&mut commits, from, to, most) {
+            Ok(Some(reached)) => Ok(reached),
+            Ok(None) => Err(LimitError::Stopped),
             Err(error) => Err(error),
         }
     }
 
-    /// What [`Checked::ancestor_walk`] answers. No more commits are visited than there are.
-    fn whole_walk(
+    /// What [`Checked::ancestor_walk_within`] answers for this number of visits, without a flag.
+    fn unflagged_walk(
         &self,
         alloc: Global,
         from: Position,
         to: Position,
+        most: u64,
     ) -> Result<Reached, LimitError<AllocError>>
         requires from { from.0 < total self.now.layers }
         requires to { to.0 < total self.now.layers }
         ensures answer { IfOk result (IsAnswer (history_of self.now.layers) from.0 to.0) }
-        ensures visits { IfOk result (λ reached. reached.visits ≤ total self.now.layers) }
-        ensures refused { IfErr result (IsSource (λ _. (from.0 ≡ to.0)
-            ⊎ MayLead (history_of self.now.layers) from.0 to.0)) }
+        ensures within { IfOk result (λ reached. reached.visits ≤ most) }
+        ensures refused { IfErr result (EndsEarly
+            (AtLeast (most + 1) (IsAtOrAbove (history_of self.now.layers) from.0 to.0))
+            ((from.0 ≡ to.0) ⊎ MayLead (history_of self.now.layers) from.0 to.0)) }
     {
-        let mut whole = InMemory::new(self.graph);
-        match FewSearcher::new(alloc).ancestor_walk(&mut whole, from, to) {
-            Ok(reached) => Ok(reached),
+        let mut commits = InMemory::new(self.graph);
+        match FewSearcher::new(alloc).ancestor_walk_within(&mut commits, from, to, most) {
+            Ok(Some(reached)) => Ok(reached),
+            Ok(None) => Err(LimitError::Stopped),
             Err(error) => Err(LimitError::Source(error)),
         }
     }
@@ -87,9 +92,10 @@ impl<'g> Checked<'g> {
     ///
     /// # Errors
     ///
-    /// `Stopped`, where those of more would have to be read, or the flag was raised; never where
-    /// the limit allows all commits of the graph and has no flag. `Source`, where an allocation
-    /// failed, as in [`Checked::is_ancestor`].
+    /// `Stopped`, where those of more would have to be read, or the flag was raised. Without a flag
+    /// it comes only where `descendant` reaches more commits than the limit allows whose generation
+    /// numbers are at least that of `ancestor`. `Source`, where an allocation failed, as in
+    /// [`Checked::is_ancestor`].
     pub fn is_ancestor_within(
         &self,
         alloc: Global,
@@ -103,41 +109,50 @@ impl<'g> Checked<'g> {
             IsTrue found ↔ Reaches (history_of self.now.layers) descendant.0 ancestor.0) }
         ensures within { IfOk result (IsToldWithin limit.entry.visits
             (history_of self.now.layers) descendant.0 ancestor.0) }
-        ensures refused { IfErr result (EndsEarly (bound_of limit.entry) (total self.now.layers)
+        ensures refused { IfErr result (EndsEarly
+            (SearchMayBeStopped (bound_of limit.entry)
+            (history_of self.now.layers) descendant.0 ancestor.0)
             ((descendant.0 ≢ ancestor.0)
             × MayLead (history_of self.now.layers) descendant.0 ancestor.0)) }
     {
-        if limit.allows(self.graph.num_commits() as u64) {
-            return self.whole_search(alloc, ancestor, descendant);
+        let most = limit.visits;
+        if limit.flag.is_none() {
+            return self.unflagged_search(alloc, ancestor, descendant, most);
         }
-        let mut commits = Limited::new(InMemory::new(self.graph), limit);
-        match FewSearcher::new(alloc).is_ancestor_counted(&mut commits, ancestor, descendant) {
-            Ok((found, visits)) if visits as u64 <= limit.visits => Ok(found),
-            Ok(_) => Err(LimitError::Stopped),
+        let mut commits = Limited::new(InMemory::new(self.graph), limit.flag_alone());
+        let mut searcher = FewSearcher::new(alloc);
+        match searcher.is_ancestor_within(&mut commits, ancestor, descendant, most) {
+            Ok(Some((found, _))) => Ok(found),
+            Ok(None) => Err(LimitError::Stopped),
             Err(error) => Err(error),
         }
     }
 
-    /// What [`Checked::is_ancestor`] answers. The parents of no more commits are read than there
-    /// are.
-    fn whole_search(
+    /// What [`Checked::is_ancestor_within`] answers for this number of visits, without a flag.
+    fn unflagged_search(
         &self,
         alloc: Global,
         ancestor: Position,
         descendant: Position,
+        most: u64,
     ) -> Result<bool, LimitError<AllocError>>
         requires ancestor { ancestor.0 < total self.now.layers }
         requires descendant { descendant.0 < total self.now.layers }
         ensures found { IfOk result (λ found.
             IsTrue found ↔ Reaches (history_of self.now.layers) descendant.0 ancestor.0) }
-        ensures within { IfOk result (IsToldWithin (total self.now.layers)
+        ensures within { IfOk result (IsToldWithin most
             (history_of self.now.layers) descendant.0 ancestor.0) }
-        ensures refused { IfErr result (IsSource (λ _. (descendant.0 ≢ ancestor.0)
+        ensures refused { IfErr result (EndsEarly
+            (AtLeast (most + 1)
+            (IsAtOrAbove (history_of self.now.layers) descendant.0 ancestor.0))
+            ((descendant.0 ≢ ancestor.0)
             × MayLead (history_of self.now.layers) descendant.0 ancestor.0)) }
     {
-        let mut whole = InMemory::new(self.graph);
-        match FewSearcher::new(alloc).is_ancestor_counted(&mut whole, ancestor, descendant) {
-            Ok((found, _)) => Ok(found),
+        let mut commits = InMemory::new(self.graph);
+        let mut searcher = FewSearcher::new(alloc);
+        match searcher.is_ancestor_within(&mut commits, ancestor, descendant, most) {
+            Ok(Some((found, _))) => Ok(found),
+            Ok(None) => Err(LimitError::Stopped),
             Err(error) => Err(LimitError::Source(error)),
         }
     }
@@ -163,7 +178,7 @@ impl<'g> Checked<'g> {
             (numbers_of others.now)) }
         ensures within { IfOk result (λ c. c.bases.visits ≤ limit.entry.visits) }
         ensures refused { IfErr result
-            (EndsEarly (bound_of limit.entry) (3 * total self.now.layers) ⊤) }
+            (EndsEarly (MayBeStopped (bound_of limit.entry) (3 * total self.now.layers)) ⊤) }
     {
         if limit.allows(3 * self.graph.num_commits() as u64) {
             return self.whole_comparison(alloc, first, others);

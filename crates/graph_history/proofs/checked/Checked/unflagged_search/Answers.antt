@@ -1,0 +1,34 @@
+use Rattle.std.proofs.Common.{◌≡◌, ap, sym, subst}
+use Rattle.gix_commitgraph.specs.Sound.{Sound}
+use Rattle.commit_search.specs.Source.{told_of}
+use Rattle.graph_history.specs.RightGraph.{CheckedLayers}
+use Rattle.graph_history.proofs.LimitLemmas.{found_there, found_within, lead_error}
+use Rattle.graph_history.proofs.checked.Checked.unflagged_search.Goals as goal
+
+pub returns-in-Ok-Some-clause-found : goal.returns-in-Ok-Some-clause-found
+returns-in-Ok-Some-clause-found c =
+    let layers = c.args.self.now.layers in
+    let same : c.is_ancestor_within.new.commits ≡ layers = cc in
+    let right : Sound layers = subst Sound (ap (λ (v : CheckedLayers). v.layers) c.self.view_is) c.self.invariant.sound.sound in
+    found_there layers c.is_ancestor_within.new.commits same c.args.descendant.0 c.args.ancestor.0 right c.in-Ok-Some.found
+    c.in-Ok-Some.field-0-0-1 (rw c.in-Ok-Some.field-0-is at c.in-Ok-Some.ensures.yes) (rw c.in-Ok-Some.field-0-is at c.in-Ok-Some.ensures.no)
+
+pub returns-in-Ok-Some-clause-within : goal.returns-in-Ok-Some-clause-within
+returns-in-Ok-Some-clause-within c =
+    let layers = c.args.self.now.layers in
+    let same : c.is_ancestor_within.new.commits ≡ layers = cc in
+    let right : Sound layers = subst Sound (ap (λ (v : CheckedLayers). v.layers) c.self.view_is) c.self.invariant.sound.sound in
+    found_within layers c.is_ancestor_within.new.commits same c.args.descendant.0 c.args.ancestor.0 right c.in-Ok-Some.found
+    c.in-Ok-Some.field-0-0-1 (rw c.in-Ok-Some.field-0-is at c.in-Ok-Some.ensures.yes) (rw c.in-Ok-Some.field-0-is at c.in-Ok-Some.ensures.above) c.args.most (rw c.in-Ok-Some.field-0-is at c.in-Ok-Some.ensures.within)
+
+pub returns-in-Ok-None-clause-refused : goal.returns-in-Ok-None-clause-refused
+returns-in-Ok-None-clause-refused c =
+    let layers = c.args.self.now.layers in
+    let same : c.is_ancestor_within.new.commits ≡ layers = cc in
+    (rw c.in-Ok-None.field-0-is at c.in-Ok-None.ensures.more) (told_of layers) (ap told_of (sym same))
+
+pub returns-clause-refused : goal.returns-clause-refused
+returns-clause-refused c =
+    let same : c.is_ancestor_within.new.commits ≡ c.args.self.now.layers = cc in
+    lead_error c.args.self.now.layers c.is_ancestor_within.new.commits same c.args.descendant.0 c.args.ancestor.0 _
+    c.in-Err.ensures.refused
