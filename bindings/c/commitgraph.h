@@ -481,8 +481,9 @@ typedef struct cg_reached { uint32_t code, visits; uint64_t length; } cg_reached
 /* Looks for a shortest walk along parents, and writes its positions, as many as there is room for. */
 cg_reached cg_ancestor_walk(cg_graph graph, uint32_t from, uint32_t to, uint32_t *out, size_t len);
 
-/* The same, unless the limit stops it: on CG_OK `visits` is at most what the limit allows. CG_STOPPED does not come where that is as many
- * as the graph has commits, and there is no flag. */
+/* The same, unless the limit stops it: on CG_OK `visits` is at most what the limit allows. Without a flag CG_STOPPED comes only where more
+ * commits than that have to be visited: `from` reaches more whose generation numbers are at least that of `to`. So it does not come
+ * where the limit allows as many as the graph has commits. */
 cg_reached cg_ancestor_walk_within(cg_graph graph, uint32_t from, uint32_t to, cg_limit limit, uint32_t *out, size_t len);
 
 /* Whether a commit is an ancestor of another: `found` says so on CG_OK, and is false elsewhere. The codes are those of
@@ -493,7 +494,8 @@ typedef struct cg_leads { uint32_t code; bool found; } cg_leads;
  * commit is its own ancestor. The order is that of `git merge-base --is-ancestor`. */
 cg_leads cg_is_ancestor(cg_graph graph, uint32_t ancestor, uint32_t descendant);
 
-/* The same, unless the limit stops it, as cg_ancestor_walk_within. A commit is visited where its parents are read. */
+/* The same, unless the limit stops it, as cg_ancestor_walk_within does with `descendant` for `from`, and `ancestor` for `to`. A commit is
+ * visited where its parents are read. */
 cg_leads cg_is_ancestor_within(cg_graph graph, uint32_t ancestor, uint32_t descendant, cg_limit limit);
 
 /* Two commits, by their positions, in the order of cg_is_ancestor. */

@@ -6,7 +6,7 @@ ghost use Rattle.graph_walks.specs.Walks.{Reaches};
 ghost use Rattle.graph_format.specs.StoredHistory.{history_of};
 ghost use Rattle.gix_commitgraph.specs.Graph.{total};
 ghost use Rattle.commit_search.specs.WalkAnswer.{MayLead};
-ghost use Rattle.graph_history.specs.Limits.{IsToldWithin, MayBeStopped};
+ghost use Rattle.graph_history.specs.Limits.{IsToldWithin, MayBeStopped, SearchMayBeStopped};
 ghost use Rattle.commitgraph_c.specs.QueryAnswers.{IsChecked, TellsAnswer, TellsBases};
 ghost use Rattle.commitgraph_c.specs.QueryAnswers.{TellsNoBases};
 ghost use Rattle.c_opening.specs.Codes.{closed_graph, no_such_position, not_checked, stopped};
@@ -35,7 +35,7 @@ pub fn cg_ancestor_walk_within(
         TellsAnswer held.0 from to result out.old out.new) }
     ensures within { result.code ≡ 0 → result.visits ≤ limit.visits }
     ensures stopped { result.code ≡ stopped → IsChecked graph.address.held (λ layers.
-        MayBeStopped (told_bound limit) (total layers)) }
+        SearchMayBeStopped (told_bound limit) (history_of layers) from to) }
     ensures nowhere { result.code ≡ no_such_position ↔ IsChecked graph.address.held (λ layers.
         (total layers ≤ from) ⊎ (total layers ≤ to)) }
     ensures unchecked { result.code ≡ not_checked ↔ IsSomeAnd graph.address.held (λ held.
@@ -78,7 +78,7 @@ pub fn cg_is_ancestor_within(
     ensures within { result.code ≡ 0 → IsSomeAnd graph.address.held (λ held.
         IsToldWithin limit.visits (history_of held.0) descendant ancestor result.found) }
     ensures stopped { result.code ≡ stopped → IsChecked graph.address.held (λ layers.
-        MayBeStopped (told_bound limit) (total layers)) }
+        SearchMayBeStopped (told_bound limit) (history_of layers) descendant ancestor) }
     ensures nowhere { result.code ≡ no_such_position ↔ IsChecked graph.address.held (λ layers.
         (total layers ≤ ancestor) ⊎ (total layers ≤ descendant)) }
     ensures unchecked { result.code ≡ not_checked ↔ IsSomeAnd graph.address.held (λ held.

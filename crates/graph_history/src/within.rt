@@ -79,8 +79,8 @@ impl<'g> Checked<'g> {
             (AtLeast (most + 1) (IsAtOrAbove (history_of self.now.layers) from.0 to.0))
             ((from.0 ≡ to.0) ⊎ MayLead (history_of self.now.layers) from.0 to.0)) }
     {
-        let mut commits = InMemory::new(self.graph);
-        match FewSearcher::new(alloc).ancestor_walk_within(&mut commits, from, to, most) {
+        let mut whole = InMemory::new(self.graph);
+        match FewSearcher::new(alloc).ancestor_walk_within(&mut whole, from, to, most) {
             Ok(Some(reached)) => Ok(reached),
             Ok(None) => Err(LimitError::Stopped),
             Err(error) => Err(LimitError::Source(error)),
@@ -148,9 +148,9 @@ impl<'g> Checked<'g> {
             ((descendant.0 ≢ ancestor.0)
             × MayLead (history_of self.now.layers) descendant.0 ancestor.0)) }
     {
-        let mut commits = InMemory::new(self.graph);
+        let mut whole = InMemory::new(self.graph);
         let mut searcher = FewSearcher::new(alloc);
-        match searcher.is_ancestor_within(&mut commits, ancestor, descendant, most) {
+        match searcher.is_ancestor_within(&mut whole, ancestor, descendant, most) {
             Ok(Some((found, _))) => Ok(found),
             Ok(None) => Err(LimitError::Stopped),
             Err(error) => Err(LimitError::Source(error)),
