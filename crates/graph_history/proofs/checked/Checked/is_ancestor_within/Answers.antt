@@ -11,7 +11,8 @@ returns-in-Ok-Some-clause-found c =
     let same : c.is_ancestor_within.new.commits.commits ≡ layers = cc in
     let right : Sound layers = subst Sound (ap (λ (v : CheckedLayers). v.layers) c.self.view_is) c.self.invariant.sound.sound in
     found_there layers c.is_ancestor_within.new.commits.commits same c.args.descendant.0 c.args.ancestor.0 right
-    c.in-Ok-Some.found c.in-Ok-Some.field-0-0-1 (rw c.in-Ok-Some.field-0-is at c.in-Ok-Some.ensures.yes) (rw c.in-Ok-Some.field-0-is at c.in-Ok-Some.ensures.no)
+    c.in-Ok-Some.found c.in-Ok-Some.field-0-0-1 (rw c.in-Ok-Some.field-0-is at c.in-Ok-Some.ensures.yes)
+    (rw c.in-Ok-Some.field-0-is at c.in-Ok-Some.ensures.no)
 
 pub returns-in-Ok-Some-clause-within : goal.returns-in-Ok-Some-clause-within
 returns-in-Ok-Some-clause-within c =
@@ -19,7 +20,8 @@ returns-in-Ok-Some-clause-within c =
     let same : c.is_ancestor_within.new.commits.commits ≡ layers = cc in
     let right : Sound layers = subst Sound (ap (λ (v : CheckedLayers). v.layers) c.self.view_is) c.self.invariant.sound.sound in
     found_within layers c.is_ancestor_within.new.commits.commits same c.args.descendant.0 c.args.ancestor.0 right
-    c.in-Ok-Some.found c.in-Ok-Some.field-0-0-1 (rw c.in-Ok-Some.field-0-is at c.in-Ok-Some.ensures.yes) (rw c.in-Ok-Some.field-0-is at c.in-Ok-Some.ensures.above) c.args.limit.visits
+    c.in-Ok-Some.found c.in-Ok-Some.field-0-0-1 (rw c.in-Ok-Some.field-0-is at c.in-Ok-Some.ensures.yes)
+    (rw c.in-Ok-Some.field-0-is at c.in-Ok-Some.ensures.above) c.args.limit.visits
     (rw c.in-Ok-Some.field-0-is at c.in-Ok-Some.ensures.within)
 
 pub returns-clause-refused : goal.returns-clause-refused
