@@ -38,23 +38,32 @@ refuse_making() {
 take_locks() {
     set -- "$single.lock"
     [ ! -d "${chain%/*}" ] || set -- "$single.lock" "$chain.lock"
-    for path in "$@"; do
-        ! is_there "$path" || refuse_locked "$@" || return
-    done
+    look_for_locks "$@"
+    [ -z "$others" ] || refuse_locked || return
     for path in "$@"; do
         take_lock "$path" && continue
+        look_for_locks "$path"
+        if [ -z "$others" ]; then
+            # Whoever held it has given it back.
+            take_lock "$path" && continue
+            look_for_locks "$path"
+        fi
         give_locks_back
-        if is_there "$path"; then refuse_locked "$path"; else refuse_making "$path"; fi
+        if [ -n "$others" ]; then refuse_locked; else refuse_making "$path"; fi
         return
     done
 }
 
-# Notes that others hold locks.
-refuse_locked() {
+# Sets `others` to those of some locks that are there, which others hold.
+look_for_locks() {
     others=''
-    for path in "$@"; do
-        ! is_there "$path" || others="$others $(quoted "$path")"
+    for held in "$@"; do
+        ! is_there "$held" || others="$others $(quoted "$held")"
     done
+}
+
+# Notes that others hold the locks `others`.
+refuse_locked() {
     fail 'the commit-graph is locked' "the lock is$others" \
         'wait for whoever writes it. If nobody does, a process was killed while it did: remove the lock, and ask again' \
         "    rm -f$others"

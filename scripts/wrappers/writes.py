@@ -148,6 +148,7 @@ def check_all(results):
     """The checks, in one repository."""
     with tempfile.TemporaryDirectory() as folder:
         check_newest(results, folder)
+        check_given_back(results)
         written = Written(folder)
         for shell in SHELLS[1:]:
             if shutil.which(shell[0]) and "--posix" not in shell:
@@ -280,6 +281,24 @@ def check_locked(results, written):
             stands(results, written, title, before)
         for path in locks:
             os.remove(path)
+
+
+def check_given_back(results):
+    """A lock that is given back as it is seen is named, and one that is given back as it is taken is taken."""
+    calls = """. ./scripts/locks.sh
+single=/a/file chain=/a/folder/chain looks=0 tries=0
+quoted() { printf '%s' "$1"; }
+fail() { printf '%s\\n' "$@"; return 1; }
+is_there() { looks=$((looks + 1)); [ $looks -eq SEEN ]; }
+take_lock() { tries=$((tries + 1)); [ $tries -gt 1 ]; }
+take_locks && echo taken
+"""
+    for shell in SHELLS[1:]:
+        if shutil.which(shell[0]):
+            for when, seen, words in (("seen", "1", ["the lock is /a/file.lock", "    rm -f /a/file.lock"]), ("taken", "0", ["taken"])):
+                answer = run([*shell, "-c", calls.replace("SEEN", seen)], {}, cwd=TOP)
+                right = set(words) <= set(answer.out.split("\n"))
+                results.check("%s: a lock is given back as it is %s" % (" ".join(shell), when), None if right else "it is %r" % (answer,))
 
 
 def check_unused(results, written):
