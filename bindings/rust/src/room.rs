@@ -2,6 +2,7 @@
 
 use crate::Position;
 use std::collections::TryReserveError;
+use std::mem::MaybeUninit;
 
 /// Room for so many items, if there is memory for them.
 pub(crate) fn reserved<T>(len: usize) -> Result<Vec<T>, TryReserveError> {
@@ -24,18 +25,20 @@ pub(crate) fn collected<T>(items: impl ExactSizeIterator<Item = T>) -> Result<Ve
     Ok(room)
 }
 
-/// The positions that a call writes, which answers how many there are: it is made again where there was too little room.
+/// The positions that a call writes into the room that it is given. It answers how many there are, and has written these, where they
+/// find room; else it is made again.
 pub(crate) fn positions_of<E: From<TryReserveError>>(
     room: usize,
-    mut write: impl FnMut(&mut [Position]) -> Result<u64, E>,
+    mut write: impl FnMut(&mut [MaybeUninit<Position>]) -> Result<u64, E>,
 ) -> Result<Vec<Position>, E> {
-    let mut out = room_for(Position(0), room)?;
+    let mut out = reserved(room)?;
     loop {
-        let length = write(&mut out)? as usize;
-        if length <= out.len() {
-            out.truncate(length);
+        let length = write(out.spare_capacity_mut())? as usize;
+        if length <= out.capacity() {
+            // SAFETY: so many positions were written.
+            unsafe { out.set_len(length) };
             return Ok(out);
         }
-        out = room_for(Position(0), length)?;
+        out = reserved(length)?;
     }
 }
