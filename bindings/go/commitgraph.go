@@ -665,7 +665,22 @@ func (g *Graph) IsAncestorWithin(ctx context.Context, ancestor, descendant uint3
 		told = C.cg_is_ancestor_within(g.raw, C.uint32_t(ancestor), C.uint32_t(descendant), limit)
 		return told.code
 	})
-	return bool(told.found), err
+	return bool(told.found), g.positioned(err, ancestor, descendant)
+}
+
+// positioned adds to an error, where the graph has no such position, the first of these that it has not.
+func (g *Graph) positioned(err error, positions ...uint32) error {
+	told, ok := err.(*Error)
+	if !ok || told.Code != C.CG_NO_SUCH_POSITION {
+		return err
+	}
+	for _, position := range positions {
+		if position >= g.Len() {
+			told.Position = position
+			break
+		}
+	}
+	return told
 }
 
 // Comparison is what a commit and some others have in common, and how far they have come apart.
@@ -695,7 +710,7 @@ func (g *Graph) CompareWithin(ctx context.Context, visits uint64, first uint32, 
 			return told.code
 		})
 		if err != nil {
-			return Comparison{}, err
+			return Comparison{}, g.positioned(err, append([]uint32{first}, others...)...)
 		}
 		if uint64(told.length) <= uint64(room) {
 			return Comparison{out[:told.length], uint32(told.ahead), uint32(told.behind)}, nil

@@ -568,14 +568,20 @@ func TestRefusals(t *testing.T) {
 	if err != nil {
 		t.Fatal(err)
 	}
-	if _, err := graph.ID(graph.Len()); err == nil || err.Error() != "the graph has no such position: 7" {
-		t.Error("an id past the end", err)
+	_, ofID := graph.ID(7)
+	_, ofAncestor := graph.IsAncestor(7, 0)
+	_, ofDescendant := graph.IsAncestor(0, 7)
+	_, ofOther := graph.Compare(0, 1, 7)
+	for _, err := range []error{ofID, ofAncestor, ofDescendant, ofOther} {
+		if err == nil || err.Error() != "the graph has no such position: 7" {
+			t.Error("a position past the end", err)
+		}
 	}
 	if position := graph.Lookup(nil); position != Nowhere {
 		t.Error(position)
 	}
 	graph.Close()
-	_, ofID := graph.ID(0)
+	_, ofID = graph.ID(0)
 	_, ofRecord := graph.Record(0)
 	for _, err := range []error{ofID, ofRecord} {
 		var told *Error

@@ -658,7 +658,7 @@ class Graph:
         `Code.STOPPED` where more commits than `visits` would have to be visited, or the flag was raised."""
         told = _library.cg_is_ancestor_within(self._graph, _place(ancestor), _place(descendant), _limit(visits, flag))
         if told.code:
-            raise Error(told.code)
+            raise self._unanswered(told.code, ancestor, descendant)
         return bool(told.found)
 
     def compare(
@@ -671,7 +671,7 @@ class Graph:
             out = (c_uint32 * room)()
             told = _library.cg_merge_bases_within(self._graph, _place(first), asked, len(others), limit, out, room)
             if told.code:
-                raise Error(told.code)
+                raise self._unanswered(told.code, first, *others)
             if told.length <= room:
                 return Comparison(out[: told.length], told.ahead, told.behind)
             room = told.length
@@ -702,6 +702,11 @@ class Graph:
         if call(self._graph, _place(position), out, size) == 0:
             raise self._none_at(position)
         return bytes(out[:size])
+
+    def _unanswered(self, code: int, *positions: int) -> Error:
+        """Why a question about the commits at these positions has no answer. Where the graph has no such position, it is the first."""
+        count = _library.cg_num_commits(self._graph)
+        return Error(code, position=next((position for position in positions if _place(position) >= count), 0))
 
     def _none_at(self, position: int) -> Error:
         """Why a call that tells no code has nothing to tell of a position."""

@@ -75,12 +75,15 @@ class OverGit(unittest.TestCase):
                 self.refused(Code.NO_SUCH_POSITION, refused, number=1)
                 with self.assertRaisesRegex(Error, "number 1 of those asked"):
                     refused()
-            for call in (graph.id, graph.tree, graph.record, graph.parents):
-                self.refused(Code.NO_SUCH_POSITION, lambda: call(none), position=none)
+            asked: list[Callable[[], object]] = [
+                *(lambda: graph.id(none), lambda: graph.tree(none), lambda: graph.record(none), lambda: graph.parents(none)),
+                *(lambda: graph.is_ancestor(0, none), lambda: graph.is_ancestor(none, 0)),
+                *(lambda: graph.compare(0, [0, none]), lambda: graph.compare(none, [0])),
+            ]
+            for call in asked:
+                self.refused(Code.NO_SUCH_POSITION, call, position=none)
                 with self.assertRaisesRegex(Error, f"the graph has no such position: {none}$"):
-                    call(none)
-            self.refused(Code.NO_SUCH_POSITION, lambda: graph.is_ancestor(0, none))
-            self.refused(Code.NO_SUCH_POSITION, lambda: graph.compare(0, [none]))
+                    call()
 
     def refused(self, code: Code, call: Callable[[], object], **told: object) -> None:
         with self.assertRaises(Error) as raised:

@@ -5,6 +5,7 @@ mod Crossing
 mod Files
 mod KnownAnswers
 mod KnownTree
+mod OneLayer
 mod ToldPath
 pub mod PieceRoom
 pub mod Written

@@ -5,6 +5,7 @@ ghost use Rattle.std.specs.Prelude.{None, Some, false, length, slice_get, true};
 ghost use Rattle.std.specs.Option.{option_map_or};
 ghost use Rattle.gix_hash_core.specs.Kind.{id_len, is_id_len};
 ghost use Rattle.gix_hash_core.specs.Oid.{oid_bytes};
+ghost use Rattle.gix_hash_core.specs.declared.kind.Kind.TheVariants.{Sha256};
 ghost use Rattle.graph_format.specs.Lookup.{scan};
 ghost use Rattle.graph_layer.specs.Commit.{layer_and_position};
 ghost use Rattle.gix_commitgraph.specs.Graph.{graph_ids, total};
@@ -19,7 +20,8 @@ use gix_commitgraph::file::Commit;
 use gix_commitgraph::law::graph::the_commits_of_layers_add_up;
 use gix_commitgraph::law::sound::a_lookup_in_a_right_graph_is_a_scan;
 use gix_commitgraph::{Graph, Position};
-use gix_hash_core::oid;
+use gix_hash_core::{Kind, oid};
+use graph_layer::lookups;
 
 /// The answer where there is no position.
 const NOWHERE: u32 = 0xffff_ffff;
@@ -83,7 +85,65 @@ pub fn look_up(opened: &Opened, id: &[u8]) -> u32
 }
 
 /// The position of an id, as a number.
+#[inline(always)]
 fn lookup_in(graph: &Graph, id: oid<'_>) -> u32
+    ensures holds { result ≢ nowhere
+        → slice_get (graph_ids graph.now) result ≡ Some (oid_bytes id.entry) }
+    ensures found { FoundIn graph.now (oid_bytes id.entry) (told_position result) }
+{
+    match id.kind() {
+        Kind::Sha1 => lookup_of_kind(graph, id, Kind::Sha1),
+        Kind::Sha256 => lookup_of_sha256(graph, id),
+    }
+}
+
+/// The position of an id of SHA-256. This stays a call of its own, so that for an id of SHA-1 no
+/// register is saved for it.
+#[inline(never)]
+fn lookup_of_sha256(graph: &Graph, id: oid<'_>) -> u32
+    requires { length (oid_bytes id) ≡ id_len Sha256 }
+    ensures holds { result ≢ nowhere
+        → slice_get (graph_ids graph.now) result ≡ Some (oid_bytes id.entry) }
+    ensures found { FoundIn graph.now (oid_bytes id.entry) (told_position result) }
+{
+    lookup_of_kind(graph, id, Kind::Sha256)
+}
+
+/// The position of an id of this kind. Most graphs have one layer.
+#[inline(always)]
+fn lookup_of_kind(graph: &Graph, id: oid<'_>, kind: Kind) -> u32
+    requires { length (oid_bytes id) ≡ id_len kind }
+    ensures holds { result ≢ nowhere
+        → slice_get (graph_ids graph.now) result ≡ Some (oid_bytes id.entry) }
+    ensures found { FoundIn graph.now (oid_bytes id.entry) (told_position result) }
+{
+    if graph.layers().len() == 1 {
+        number(graph, lookup_in_layer(graph, id, kind))
+    } else {
+        lookup_in_layers(graph, id)
+    }
+}
+
+/// The position of an id of this kind in a graph of one layer.
+#[inline(always)]
+#[tactic(auto, using(crate::proofs::OneLayer::lookup_laws))]
+fn lookup_in_layer(graph: &Graph, id: oid<'_>, kind: Kind) -> Option<Position>
+    requires one { length graph.now ≡ 1 }
+    requires kind { length (oid_bytes id) ≡ id_len kind }
+    ensures holds { IfSome result (λ pos.
+        slice_get (graph_ids graph.now) pos.0 ≡ Some (oid_bytes id.entry)) }
+    ensures found { FoundIn graph.now (oid_bytes id.entry) (position_number result) }
+{
+    match lookups::lookup_of_kind(&graph.layers()[0], id, kind) {
+        Some(pos) => Some(Position(pos.0)),
+        None => None,
+    }
+}
+
+/// The position of an id in any graph, as a number. This stays a call of its own, so that where
+/// there is one layer no register is saved for it.
+#[inline(never)]
+fn lookup_in_layers(graph: &Graph, id: oid<'_>) -> u32
     ensures holds { result ≢ nowhere
         → slice_get (graph_ids graph.now) result ≡ Some (oid_bytes id.entry) }
     ensures found { FoundIn graph.now (oid_bytes id.entry) (told_position result) }
