@@ -29,6 +29,8 @@ from topics import PAIRS
 
 SOURCES = common.sources("library")
 LIBRARY = os.path.join(common.TOP, "crates", "commitgraph_c", "out")
+ROUNDS = 20
+"""How often each program is run. They take turns, so that all find a time when their neighbours leave the memory to them."""
 FEW = 30
 """Of the pairs at random so many are asked about."""
 CALLS = 100_000_000
@@ -58,7 +60,7 @@ def main(folder=None):
         programs = [c_program(folder), rust_program(folder)]
         common.print_load()
         rounds = []
-        for _ in range(lookup.ROUNDS):
+        for _ in range(ROUNDS):
             own = figures(ours, [present, absent, positions, once, twice, *layers])
             own.update(figures(queries, [*pairs, layers[0]], "layer-"))
             own.update(figures(queries, [*pairs, *layers[1:]], "chain-"))
