@@ -2,6 +2,7 @@ mod BlockRoom
 mod FieldParents
 mod FirstRoom
 mod IdRoom
+mod LayerPlaces
 mod ManyRoom
 mod OneLayer
 mod ParentRoom
