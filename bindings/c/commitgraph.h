@@ -190,7 +190,8 @@ typedef struct cg_file { const uint8_t *bytes; size_t len; const uint8_t *path; 
 typedef struct cg_error { uint32_t code; uint64_t layer; } cg_error;
 
 /* Opens the graph of these layers, the lowest first: one file, or the files of a chain (see cg_chain_line). On CG_OK *out is the
- * graph, which is the caller's to close; else *out is left as it was. What *out was before is not freed: let it be CG_CLOSED.
+ * graph, which is the caller's to close; else *out is left as it was. What *out was before is not freed: let it be CG_CLOSED. Where
+ * `count` is 0, the code is CG_GRAPH_NO_FILES, of which cg_strerror and cg_advice speak as of a chain file that is empty.
  *
  * The bytes and the paths are copied, and may go once the call has returned. No call keeps the caller's own: whoever changed
  * bytes that were lent, as another process changes a mapped file, would change a graph that was checked. A graph takes 20 bytes
@@ -207,7 +208,8 @@ enum cg_place { CG_ANYTHING = 0, CG_FILE = 1, CG_CHAIN_FOLDER = 2, CG_INFO_FOLDE
  * for whose bytes there is no memory. */
 enum cg_standing { CG_NOTHING = 0, CG_READ = 1, CG_FOLDER = 2, CG_UNOPENED = 3, CG_UNREAD = 4, CG_NO_MEMORY = 5 };
 
-/* What a caller knows of a path: `kind` is one of cg_standing, and the bytes are those of a file that was read, else none. */
+/* What a caller knows of a path: `kind` is one of cg_standing, and any other number counts as CG_UNOPENED; the bytes are those of a
+ * file that was read, else none. */
 typedef struct cg_known {
     const char *path; size_t path_len; const uint8_t *bytes; size_t len; uint32_t kind;
 } cg_known;
@@ -238,10 +240,11 @@ typedef struct cg_path_error { uint32_t code; uint64_t layer, length; } cg_path_
  *   CG_ANYTHING        and any other number: a file, a folder with a file commit-graph-chain, or an info folder.
  * A path that is wanted is none of those that are known, and what is known of the others does not say whether a graph is opened. For
  * a chain it is first that of the chain file, and then that of the first layer of which nothing is known, if all before it are
- * layers. It begins with the path that is asked for, and follows it after a slash; of the empty path it stands alone. So who looks
- * below a folder of their own may ask for the empty path, and the folder's need not be UTF-8. Of two that are known of one path the
- * first counts. What is known of paths that nothing asks for is not looked at: since the layers before a wanted one
- * are opened at each call, a caller does well to add all layers of a chain at once (cg_chain_line).
+ * layers. It begins with the path that is asked for, and follows it after a slash, which is not written twice; of the empty path it
+ * stands alone. So who looks below a folder of their own may ask for the empty path, and the folder's need not be UTF-8. Of two that
+ * are known of one path the first counts. What is known of paths that nothing asks for is not looked at: since the layers before a
+ * wanted one are opened at each call, a caller does well to add all layers of a chain at once (cg_chain_line). In the
+ * sources the example bindings/c/open_path.c does all of that.
  *
  * On CG_OK *out is the graph of the bytes that were handed in. It is the caller's to close, and no check has seen it:
  * see cg_check; the bytes are copied. Else *out is left as it was, and `file` gets the path that is told, as much of it as there is

@@ -214,6 +214,9 @@ func Open(path string, distinctIDs bool) (*Graph, error) {
 // OpenWithin opens a graph as Open does, unless its check is stopped: where it would have to visit more commits, or the context is
 // done, whose error is answered then. What reads the files does not look at the context, and neither do the digests of the files.
 func OpenWithin(ctx context.Context, path string, distinctIDs bool, visits uint64) (*Graph, error) {
+	if err := otherVersion(uint32(C.cg_version())); err != nil {
+		return nil, err
+	}
 	known := &paths{asked: path}
 	defer known.free()
 	if !utf8.ValidString(path) {
@@ -228,6 +231,15 @@ func OpenWithin(ctx context.Context, path string, distinctIDs bool, visits uint6
 		return nil, err
 	}
 	return known.checked(ctx, raw, distinctIDs, visits)
+}
+
+// otherVersion says so where the library is not of the version that the package was built with.
+func otherVersion(found uint32) error {
+	if found == C.CG_VERSION {
+		return nil
+	}
+	return fmt.Errorf("libcommitgraph is of version %d, and the program was built with version %d; what to do: build it anew, "+
+		"with `go build -a`, or let LD_LIBRARY_PATH name the folder of the library that it was built with", found, int(C.CG_VERSION))
 }
 
 // checked checks the graph that was opened, and closes it where it is refused.
@@ -507,6 +519,9 @@ func chainLines(text []byte) []string {
 
 // OpenLayers opens and checks the graph of layers whose bytes are at hand, the lowest first.
 func OpenLayers(layers []Layer, distinctIDs bool) (*Graph, error) {
+	if err := otherVersion(uint32(C.cg_version())); err != nil {
+		return nil, err
+	}
 	room := C.calloc(C.size_t(len(layers)+1), C.sizeof_cg_file)
 	if room == nil {
 		return nil, &Error{Code: C.CG_OUT_OF_MEMORY}
@@ -547,7 +562,7 @@ func (g *Graph) Len() uint32 {
 	return uint32(C.cg_num_commits(g.raw))
 }
 
-// Lookup is the position of the commit with an id, or Nowhere.
+// Lookup is the position of the commit with an id, or Nowhere; in a graph that is closed always Nowhere.
 func (g *Graph) Lookup(id []byte) uint32 {
 	defer runtime.KeepAlive(g)
 	return uint32(C.cg_lookup(g.raw, at(id), C.size_t(len(id))))
@@ -774,6 +789,9 @@ func (g *Graph) WriteLayer(commits []NewCommit) ([]byte, error) {
 }
 
 func write(below C.cg_graph, commits []NewCommit) ([]byte, error) {
+	if err := otherVersion(uint32(C.cg_version())); err != nil {
+		return nil, err
+	}
 	handed, err := handedIn(commits)
 	if err != nil {
 		return nil, err

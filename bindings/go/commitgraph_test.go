@@ -545,6 +545,12 @@ func TestGoroutines(t *testing.T) {
 	}
 }
 
+func TestOtherVersion(t *testing.T) {
+	if err := otherVersion(777); err == nil || !strings.HasPrefix(err.Error(), "libcommitgraph is of version 777, ") {
+		t.Error(err)
+	}
+}
+
 func TestRefusals(t *testing.T) {
 	r := made(t)
 	_, err := Open(r.info, false)

@@ -24,6 +24,8 @@ from typing import NamedTuple
 
 VERSION = 100
 """The version of the library that this module is for."""
+INSTALLED = "libcommitgraph.so.0"
+"""The name of the library where it is installed."""
 
 
 class Code(enum.IntEnum):
@@ -481,7 +483,10 @@ CLONE = pathlib.Path(__file__).resolve().parent / "../.."
 def _path() -> str:
     """The path of the library, or its name for the system, where neither a folder is named nor this clone has built it."""
     named, built = os.environ.get("COMMITGRAPH_LIB"), CLONE / "crates/commitgraph_c/out/libcommitgraph.so"
-    return os.path.join(named, "libcommitgraph.so") if named else str(built) if built.exists() else "libcommitgraph.so.0"
+    if named:
+        installed = os.path.join(named, INSTALLED)
+        return installed if os.path.exists(installed) else os.path.join(named, built.name)
+    return str(built) if built.exists() else INSTALLED
 
 
 def _load() -> ctypes.CDLL:
@@ -606,6 +611,8 @@ class Graph:
         """The position of the commit with an id, which is given as bytes or in hexadecimal. ValueError is raised where a text is no
         id: it has 40 or 64 digits."""
         name = _id_of(commit) if isinstance(commit, str) else commit
+        if not self._graph.opened:
+            raise Error(Code.CLOSED_GRAPH)
         return _found(_library.cg_lookup(self._graph, _at(name), len(name)))
 
     def lookup_all(self, commits: Sequence[bytes]) -> list[int | None]:

@@ -131,6 +131,9 @@ class OverGit(unittest.TestCase):
         self.refused(Code.CLOSED_GRAPH, lambda: below.write_layer(own))
         for call in (below.id, below.tree, below.record):
             self.refused(Code.CLOSED_GRAPH, lambda: call(0))
+        for commits in ([told[first].id], [told[first].id, b"\0"]):
+            self.refused(Code.CLOSED_GRAPH, lambda: below.lookup_all(commits))
+        self.refused(Code.CLOSED_GRAPH, lambda: below.lookup(told[first].id))
 
     def test_commits_that_are_refused(self) -> None:
         one, two = NewCommit(b"\1" * 20, b"\1" * 20, [], 5), NewCommit(b"\2" * 20, b"\1" * 20, [b"\1" * 20], 5)
@@ -286,6 +289,10 @@ class OverGit(unittest.TestCase):
             done = subprocess.run(command, env={**at, "COMMITGRAPH_LIB": named}, capture_output=True, text=True, cwd="/")
             for word in ("ImportError: ", *words):
                 self.assertIn(word, done.stderr)
+        installed = pathlib.Path(self.folder.name) / "libcommitgraph.so.0"
+        installed.write_bytes(b"")
+        done = subprocess.run(command, env={**at, "COMMITGRAPH_LIB": self.folder.name}, capture_output=True, text=True, cwd="/")
+        self.assertIn(f"ImportError: {installed}: file too short", done.stderr)
 
     def test_refusals(self) -> None:
         self.git("commit-graph", "write", "--reachable")

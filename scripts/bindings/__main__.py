@@ -554,6 +554,7 @@ def c(compiler, archive, scratch, graphs):
     fields(compiler, compiler, archive, scratch)
     refused_and_shared(compiler, compiler, archive, scratch, graphs)
     example(compiler, archive, scratch, graphs)
+    opened_path(compiler, archive, scratch, graphs)
     plus = {"gcc": "g++", "clang": "clang++"}[compiler]
     including = scratch / compiler / "including"
     including.write_text('#include "commitgraph.h"\ncg_graph closed(void);\ncg_graph closed(void) { return CG_CLOSED; }\n'
@@ -600,6 +601,32 @@ def example(compiler, archive, scratch, graphs):
         done = run(program, path, ids[-1])
         told = done.stderr.startswith(f"{path}: ") and f"\nwhat to do: {words}" in done.stderr
         expect(f"{compiler}: example, {words}", done.returncode == 2 and told, done)
+
+
+def opened_path(compiler, archive, scratch, graphs):
+    """The example that opens what stands at a path: files, info folders and chains; and what it says of those that are refused."""
+    program = scratch / compiler / "open_path"
+    done = run(compiler, "-std=c11", *STRICT, f"-I{HEADER}", HEADER / "open_path.c", archive, "-o", program)
+    expect(f"{compiler}: open_path.c", done.returncode == 0, done.stderr)
+    for kind, (graph, _) in graphs.items():
+        folder = scratch / compiler / f"opened-{kind}"
+        chain, data = folder / "commit-graphs", graph.read_bytes()
+        chain.mkdir(parents=True)
+        name = data[-32 if kind == "sha256" else -20 :].hex()
+        (chain / f"graph-{name}.graph").write_bytes(data)
+        (chain / "commit-graph-chain").write_text(f"{name}\n")
+        for path in (graph, graph.parent, folder, chain):
+            done = run(program, path)
+            expect(f"{compiler}: open_path {path}", (done.returncode, done.stdout) == (0, "11 commits, layers: 1\n"), done)
+        (folder / "commit-graph").write_bytes(data[:100])
+        (chain / "commit-graph-chain").write_text("")
+        done = run(program, folder)
+        said = [f"{folder}/commit-graph: the file has fewer than 1100 bytes", f"{chain}/commit-graph-chain: the chain file names no layer"]
+        told = [line for line in done.stderr.splitlines() if not line.startswith("what to do: ")]
+        is_told = len(told) == 2 and all(line.startswith(one) for line, one in zip(told, said))
+        expect(f"{compiler}: open_path, both refused", done.returncode == 1 and is_told, done)
+    done = run(program, "no/such/file")
+    expect(f"{compiler}: open_path, none", done.stderr.startswith("no/such/file: no file or folder is at the path\nwhat to do: "), done)
 
 
 def refused_example(compiler, program, data, kind):
