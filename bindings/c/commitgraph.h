@@ -243,8 +243,8 @@ typedef struct cg_path_error { uint32_t code; uint64_t layer, length; } cg_path_
  * layers. It begins with the path that is asked for, and follows it after a slash, which is not written twice; of the empty path it
  * stands alone. So who looks below a folder of their own may ask for the empty path, and the folder's need not be UTF-8. Of two that
  * are known of one path the first counts. What is known of paths that nothing asks for is not looked at: since the layers before a
- * wanted one are opened at each call, a caller does well to add all layers of a chain at once (cg_chain_line). In the
- * sources the example bindings/c/open_path.c does all of that.
+ * wanted one are opened at each call, a caller does well to add all layers of a chain at once (cg_chain_line).
+ * cg_open_path of commitgraph_path.h does all of that, by the C library's own files.
  *
  * On CG_OK *out is the graph of the bytes that were handed in. It is the caller's to close, and no check has seen it:
  * see cg_check; the bytes are copied. Else *out is left as it was, and `file` gets the path that is told, as much of it as there is

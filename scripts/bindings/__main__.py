@@ -557,7 +557,7 @@ def c(compiler, archive, scratch, graphs):
     opened_path(compiler, archive, scratch, graphs)
     plus = {"gcc": "g++", "clang": "clang++"}[compiler]
     including = scratch / compiler / "including"
-    including.write_text('#include "commitgraph.h"\ncg_graph closed(void);\ncg_graph closed(void) { return CG_CLOSED; }\n'
+    including.write_text('#include "commitgraph_path.h"\ncg_graph closed(void);\ncg_graph closed(void) { return CG_CLOSED; }\n'
                          'cg_bytes no_bytes(void);\ncg_bytes no_bytes(void) { return CG_NO_BYTES; }\n'
                          'cg_flag no_flag(void);\ncg_flag no_flag(void) { return CG_NO_FLAG; }\n'
                          'cg_lent not_lent(void);\ncg_lent not_lent(void) { return CG_NOT_LENT; }\n')
@@ -604,7 +604,7 @@ def example(compiler, archive, scratch, graphs):
 
 
 def opened_path(compiler, archive, scratch, graphs):
-    """The example that opens what stands at a path: files, info folders and chains; and what it says of those that are refused."""
+    """The example that opens what stands at a path: files, info folders and chains; and what it says of what is refused."""
     program = scratch / compiler / "open_path"
     done = run(compiler, "-std=c11", *STRICT, f"-I{HEADER}", HEADER / "open_path.c", archive, "-o", program)
     expect(f"{compiler}: open_path.c", done.returncode == 0, done.stderr)
@@ -619,12 +619,16 @@ def opened_path(compiler, archive, scratch, graphs):
             done = run(program, path)
             expect(f"{compiler}: open_path {path}", (done.returncode, done.stdout) == (0, "11 commits, layers: 1\n"), done)
         (folder / "commit-graph").write_bytes(data[:100])
-        (chain / "commit-graph-chain").write_text("")
         done = run(program, folder)
-        said = [f"{folder}/commit-graph: the file has fewer than 1100 bytes", f"{chain}/commit-graph-chain: the chain file names no layer"]
-        told = [line for line in done.stderr.splitlines() if not line.startswith("what to do: ")]
-        is_told = len(told) == 2 and all(line.startswith(one) for line, one in zip(told, said))
-        expect(f"{compiler}: open_path, both refused", done.returncode == 1 and is_told, done)
+        expect(f"{compiler}: open_path, the chain alone", (done.returncode, done.stdout) == (0, "11 commits, layers: 1\n"), done)
+        (chain / "commit-graph-chain").write_text("")
+        refused = [(f"{chain}/commit-graph-chain", "the chain file names no layer")]
+        refused += [(f"{folder}/commit-graph", "the file has fewer than 1100 bytes: often it is truncated")]
+        for path, why in refused:
+            done = run(program, folder)
+            told = done.stderr.startswith(f"{path}: {why}\nwhat to do: ")
+            expect(f"{compiler}: open_path, {why}", done.returncode == 1 and told, done)
+            shutil.rmtree(chain, ignore_errors=True)
     done = run(program, "no/such/file")
     expect(f"{compiler}: open_path, none", done.stderr.startswith("no/such/file: no file or folder is at the path\nwhat to do: "), done)
 

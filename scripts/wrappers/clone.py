@@ -17,7 +17,7 @@ COPIED = (
     "scripts/new_commits.awk",
     *("scripts/json.awk", "scripts/fields", "scripts/fields.awk", "scripts/explain.awk", "scripts/manual.awk", "scripts/alternates.awk"),
     *("scripts/install", "scripts/program", "scripts/library", "scripts/package", "bindings/c/commitgraph.h"),
-    *("bindings/c/commitgraph.pc", "bindings/c/commitgraph.3", "bindings/c/commitgraph-config.cmake"),
+    *("bindings/c/commitgraph_path.h", "bindings/c/commitgraph.pc", "bindings/c/commitgraph.3", "bindings/c/commitgraph-config.cmake"),
     "bindings/c/commitgraph-config-version.cmake",
     *("crates/graphtool/src/main.rt", "crates/historytool/src/main.rt", "LICENSE-MIT", "LICENSE-APACHE"),
     "docs/DIFFERENCES.md",
