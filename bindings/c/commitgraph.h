@@ -246,9 +246,9 @@ typedef struct cg_path_error { uint32_t code; uint64_t layer, length; } cg_path_
  * wanted one are opened at each call, a caller does well to add all layers of a chain at once (cg_chain_line).
  * cg_open_path of commitgraph_path.h does all of that, by the C library's own files.
  *
- * On CG_OK *out is the graph of the bytes that were handed in. It is the caller's to close, and no check has seen it:
- * see cg_check; the bytes are copied. Else *out is left as it was, and `file` gets the path that is told, as much of it as there is
- * room for. */
+ * On CG_OK *out is the graph of the bytes that were handed in. It is the caller's to close, and no check has seen it: see cg_check.
+ * The bytes are copied; of a file that is opened alone what is no layer is refused before. Else *out is left as it was, and `file` gets
+ * the path that is told, as much of it as there is room for. */
 cg_path_error cg_open_known(const char *path, size_t path_len, uint32_t what, const cg_known *known, size_t count,
                             char *file, size_t file_len, cg_graph *out);
 

@@ -1,9 +1,10 @@
 //! What is opened at a path, of what a caller knows of paths: the openers see the files that were
 //! read, and where one is missing, what is known of its path decides.
 
-ghost use Rattle.std.specs.Prelude.{◌≡◌, ◌∷◌, IfErr, IfOk, find, not, option_map, slice_get};
-ghost use Rattle.std.specs.Prelude.{string_bytes};
+ghost use Rattle.std.specs.Prelude.{◌≡◌, ◌∷◌, Err, IfErr, IfNone, IfOk, IfSome, None, Some, find};
+ghost use Rattle.std.specs.Prelude.{not, option_and_then, option_map, slice_get, string_bytes};
 ghost use Rattle.graph_folder.specs.Tree.{file_at, is_file};
+ghost use Rattle.graph_format.specs.Refusal.{refusal};
 ghost use Rattle.graph_layer.specs.OpenRefusals.{OutOfMemoryStandsAlone};
 ghost use Rattle.gix_commitgraph.specs.Graph.{IsGraph};
 ghost use Rattle.gix_commitgraph.specs.OpenAlways.{IsFileError, IsFolderError, IsFromChain};
@@ -11,16 +12,17 @@ ghost use Rattle.gix_commitgraph.specs.OpenAlways.{IsFromFile, IsFromInfo, IsFro
 ghost use Rattle.gix_commitgraph.specs.Paths.{chain_path};
 ghost use Rattle.c_opening.specs.AtPath.{IsGraphAt, IsUnopenedAt};
 ghost use Rattle.c_opening.specs.KnownPaths.{known_at, known_tree};
-ghost use Rattle.c_opening.specs.KnownOpening.{AnswersAs, IfRefused, chain_answer, file_answer};
-ghost use Rattle.c_opening.specs.KnownOpening.{first_unread, folder_answer, info_answer};
-ghost use Rattle.c_opening.specs.KnownOpening.{IsObstacle, is_final, known_opened, layer_files};
-ghost use Rattle.c_opening.specs.KnownOpening.{path_answer, refused_file};
+ghost use Rattle.c_opening.specs.KnownOpening.{AnswersAs, ByError, IfRefused, IsObstacle};
+ghost use Rattle.c_opening.specs.KnownOpening.{chain_answer, file_answer, first_unread};
+ghost use Rattle.c_opening.specs.KnownOpening.{folder_answer, info_answer, is_final, known_opened};
+ghost use Rattle.c_opening.specs.KnownOpening.{layer_files, path_answer, refused_file};
 
 use crate::known::{CgKnown, KnownFiles, find, is_known_file, is_read, read_bytes};
-use gix_commitgraph::Graph;
 use gix_commitgraph::opening::path::{chain_path, info_chain_path, info_file_path, layer_path};
 use gix_commitgraph::opening::{OpenError, open_chain_dir_in, open_file_in};
+use gix_commitgraph::{FileError, Graph};
 use graph_folder::lines::Lines;
+use graph_format::layout::layout_of;
 use std::alloc::{AllocError, Global};
 
 /// Why no graph is opened at a path.
@@ -261,11 +263,34 @@ fn open_file(alloc: Global, known: &[CgKnown<'_>], path: &str) -> Result<Graph, 
     ensures errors { IfErr result (λ why. IfRefused why IsFileError) }
     ensures memory { IfErr result (λ why. IfRefused why OutOfMemoryStandsAlone) }
 {
+    // Nothing is copied of what is no layer.
+    if let Some(error) = refused_bytes(known, path) {
+        return Err(Unopened::Refused(error, String::from_str(alloc, path)?));
+    }
     let mut files = KnownFiles::new(known);
     match open_file_in(alloc, &mut files, path) {
         Ok(graph) => Ok(graph),
         Err(OpenError::OutOfMemory) => Err(Unopened::NoMemory),
         Err(OpenError::NotOpened) => Err(Unopened::Unread(String::from_str(alloc, path)?)),
         Err(error) => Err(Unopened::Refused(error, String::from_str(alloc, path)?)),
+    }
+}
+
+/// Why the opener refuses the file at a path for its bytes, if it was read and they are no layer.
+/// `OutOfMemory` never comes: nothing is copied.
+#[tactic(auto, unfolding(crate::specs::KnownOpening::file_answer))]
+fn refused_bytes(known: &[CgKnown<'_>], path: &str) -> Option<OpenError>
+    ensures answer { IfSome result (λ error.
+        file_answer (known_tree known.now) path.now ≡ Err (ByError error path.now)) }
+    ensures accepted { IfNone result
+        (option_and_then refusal (file_at (known_tree known.now) path.now) ≡ None) }
+    ensures errors { IfSome result IsFileError }
+    ensures memory { IfSome result OutOfMemoryStandsAlone }
+{
+    let bytes = read_bytes(known, path.as_bytes())?;
+    match layout_of(bytes) {
+        Ok(_) => None,
+        Err(FileError::OutOfMemory) => Some(OpenError::OutOfMemory),
+        Err(error) => Some(OpenError::Layer { layer: 0, error }),
     }
 }
