@@ -60,8 +60,8 @@ static inline bool cg_paths_ends(const cg_known *it, const char *name) {
     return it->path_len >= len && memcmp(it->path + it->path_len - len, name, len) == 0;
 }
 
-/* Adds the layers that a chain file names, if the last path is that of one: otherwise each would be wanted by itself, and those before
- * it opened once more. */
+/* Adds the layers that a chain file names, if the last path is that of one: otherwise each would be wanted by itself, and those
+ * before it opened once more. */
 static inline bool cg_paths_add_layers(cg_paths *all) {
     cg_known chain = all->known[all->count - 1];
     cg_line line = { false, 0, 0 };
@@ -117,9 +117,10 @@ static inline cg_path_error cg_paths_of_file(cg_paths *all, const char *asked, c
     return told;
 }
 
-/* Opens the graph at a path, which ends with a null byte, as cg_open_known does: the files are read, and all of a chain at once. Where an
- * info folder has a file that is refused, and no chain, the error is that of the file; CG_PATH_WANTED does not come. `file` gets the
- * path that is told, as much of it as there is room for, and a null byte, if `file_len` is not 0. The graph is not checked: see cg_check. */
+/* Opens the graph at a path, which ends with a null byte, as cg_open_known does: the files are read, those of a chain at once. Where
+ * an info folder has a file that is refused, and no chain, the error is that of the file; CG_PATH_WANTED does not come. `file` gets
+ * the path that is told, as much of it as there is room for, and a null byte, if `file_len` is not 0. The graph is not checked: see
+ * cg_check. */
 static inline cg_path_error cg_open_path(const char *path, uint32_t what, char *file, size_t file_len, cg_graph *out) {
     cg_paths all = { NULL, 0, NULL, 0 };
     cg_path_error told;
