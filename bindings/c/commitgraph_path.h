@@ -13,24 +13,39 @@
 /* What is known of paths; and room for one that is wanted, with a null byte behind it. */
 typedef struct cg_paths { cg_known *known; size_t count; char *wanted; size_t room; } cg_paths;
 
+/* Reads a file to its end, in a room that is first of this size. */
+static inline void cg_paths_read_file(cg_known *it, FILE *file, size_t room) {
+    uint8_t *bytes = NULL, *more;
+    size_t len = 0;
+    it->kind = CG_NO_MEMORY;
+    while ((more = (uint8_t *)realloc(bytes, room)) != NULL) {
+        bytes = more;
+        len += fread(bytes + len, 1, room - len, file);
+        if (len < room) {
+            it->kind = ferror(file) ? CG_UNREAD : CG_READ;
+            break;
+        }
+        room *= 2;
+    }
+    if (it->kind == CG_READ) {
+        it->bytes = bytes;
+        it->len = len;
+    } else {
+        free(bytes);
+    }
+}
+
 /* Reads what stands at a path. */
 static inline void cg_paths_read(cg_known *it) {
     struct stat status;
     FILE *file;
-    uint8_t *bytes;
     if (stat(it->path, &status) != 0) return;
     it->kind = CG_FOLDER;
     if (S_ISDIR(status.st_mode)) return;
     it->kind = CG_UNOPENED;
     file = fopen(it->path, "rb");
     if (!file) return;
-    it->kind = CG_NO_MEMORY;
-    bytes = (uint8_t *)malloc((size_t)status.st_size + 1);
-    if (bytes) {
-        it->len = fread(bytes, 1, (size_t)status.st_size, file);
-        it->kind = ferror(file) ? CG_UNREAD : CG_READ;
-        it->bytes = bytes;
-    }
+    cg_paths_read_file(it, file, (size_t)status.st_size + 1);
     fclose(file);
 }
 
