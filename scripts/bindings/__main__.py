@@ -618,6 +618,10 @@ def opened_path(compiler, archive, scratch, graphs):
         for path in (graph, graph.parent, folder, chain):
             done = run(program, path)
             expect(f"{compiler}: open_path {path}", (done.returncode, done.stdout) == (0, "11 commits, layers: 1\n"), done)
+        if present("valgrind", "open_path under valgrind"):
+            words = ["valgrind", "-q", "--error-exitcode=99", "--leak-check=full", "--errors-for-leak-kinds=all"]
+            done = run(*words, program, folder)
+            expect(f"{compiler}: open_path, valgrind", done.returncode == 0 and not done.stderr, done)
         (folder / "commit-graph").write_bytes(data[:100])
         done = run(program, folder)
         expect(f"{compiler}: open_path, the chain alone", (done.returncode, done.stdout) == (0, "11 commits, layers: 1\n"), done)
