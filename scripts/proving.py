@@ -33,6 +33,9 @@ EXPORTED = re.compile(r"^pub fn (cg_\w+)\((.*?)\)( -> \w+)?(\n.*?)\n\{\n", re.MU
 """A function for C: its name, its parameters, its result and its contract."""
 USED = re.compile(r"^use (?!crate::)([\w:]+)::(?:\{([^}]*)\}|(\w+));", re.MULTILINE)
 """What a file takes from other crates: the path, and several names or one."""
+ALIGNMENT = 32
+"""Each function of the static library begins at a multiple of so many bytes. Some processors take a jump across 32 bytes slowly, so
+that where a program has a loop by chance would decide on its time."""
 PROCESSORS = len(os.sched_getaffinity(0))
 MEMORY = 3 * 2**30
 """As many bytes of memory has to be there for each job of a check."""
@@ -196,6 +199,7 @@ def build_archive(jobs, date=None):
         write_exports(pathlib.Path(folder))
         used = list(dict.fromkeys(name for crate in FOR_C for name in (*USES[crate], crate)))
         prove_in(folder, build_words("exports", used, "lib", kind, jobs))
+    run(["objcopy", "--set-section-alignment", f".text*={ALIGNMENT}", archive()], CRATES / STATIC)
     os.utime(archive(), (date or started,) * 2)
     print(f"{archive().name}: proved in {time.time() - started:.0f} s", flush=True)
 
