@@ -191,7 +191,7 @@ typedef struct cg_error { uint32_t code; uint64_t layer; } cg_error;
 
 /* Opens the graph of these layers, the lowest first: one file, or the files of a chain (see cg_chain_line). On CG_OK *out is the
  * graph, which is the caller's to close; else *out is left as it was. What *out was before is not freed: let it be CG_CLOSED. Where
- * `count` is 0, the code is CG_GRAPH_NO_FILES, of which cg_strerror and cg_advice speak as of a chain file that is empty.
+ * `count` is 0, the code is CG_GRAPH_NO_FILES; cg_strerror and cg_advice then speak of an empty chain file.
  *
  * The bytes and the paths are copied, and may go once the call has returned. No call keeps the caller's own: whoever changed
  * bytes that were lent, as another process changes a mapped file, would change a graph that was checked. A graph takes 20 bytes
@@ -247,8 +247,8 @@ typedef struct cg_path_error { uint32_t code; uint64_t layer, length; } cg_path_
  * cg_open_path of commitgraph_path.h does all of that, by the C library's own files.
  *
  * On CG_OK *out is the graph of the bytes that were handed in. It is the caller's to close, and no check has seen it: see cg_check.
- * The bytes are copied; of a file that is opened alone what is no layer is refused before. Else *out is left as it was, and `file` gets
- * the path that is told, as much of it as there is room for. */
+ * The bytes are copied. A file that is to be the only layer, and is none, is refused before that. On another code *out is left as it
+ * was, and `file` gets the path that is told, as much of it as there is room for. */
 cg_path_error cg_open_known(const char *path, size_t path_len, uint32_t what, const cg_known *known, size_t count,
                             char *file, size_t file_len, cg_graph *out);
 

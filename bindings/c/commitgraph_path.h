@@ -87,7 +87,7 @@ static inline bool cg_paths_add_layers(cg_paths *all) {
         char name[sizeof "graph-.graph" + 64];
         line = cg_chain_line(chain.bytes, chain.len, start);
         if (!line.found) return true;
-        if (line.end - start > 64) continue;
+        if (line.end - start > 64) continue; /* No checksum is that long. */
         memcpy(name, "graph-", 6);
         if (line.end > start) memcpy(name + 6, chain.bytes + start, line.end - start);
         memcpy(name + 6 + (line.end - start), ".graph", 6);
@@ -132,10 +132,10 @@ static inline cg_path_error cg_paths_of_file(cg_paths *all, const char *asked, c
     return told;
 }
 
-/* Opens the graph at a path, which ends with a null byte, as cg_open_known does: the files are read, those of a chain at once. Where
- * an info folder has a file that is refused, and no chain, the error is that of the file; CG_PATH_WANTED does not come. `file` gets
- * the path that is told, as much of it as there is room for, and a null byte, if `file_len` is not 0. The graph is not checked: see
- * cg_check. */
+/* Opens the graph at a path, which ends with a null byte, as cg_open_known does, and reads the files itself, those of a chain at
+ * once. Where the file of an info folder is refused, and a file of its chain is not there, the error is that of the first.
+ * CG_PATH_WANTED does not come. If `file_len` is not 0, `file` gets the path that is told, as much of it as there is room for, and
+ * a null byte. The graph is not checked: see cg_check. */
 static inline cg_path_error cg_open_path(const char *path, uint32_t what, char *file, size_t file_len, cg_graph *out) {
     cg_paths all = { NULL, 0, NULL, 0 };
     cg_path_error told;

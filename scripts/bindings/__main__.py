@@ -610,14 +610,17 @@ def opened_path(compiler, archive, scratch, graphs):
     expect(f"{compiler}: open_path.c", done.returncode == 0, done.stderr)
     for kind, (graph, _) in graphs.items():
         folder = scratch / compiler / f"opened-{kind}"
-        chain, data = folder / "commit-graphs", graph.read_bytes()
-        chain.mkdir(parents=True)
+        layers, data = folder / "commit-graphs", graph.read_bytes()
+        layers.mkdir(parents=True)
         name = data[-32 if kind == "sha256" else -20 :].hex()
-        (chain / f"graph-{name}.graph").write_bytes(data)
-        (chain / "commit-graph-chain").write_text(f"{name}\n")
-        for path in (graph, graph.parent, folder, chain):
+        (layers / f"graph-{name}.graph").write_bytes(data)
+        (layers / "commit-graph-chain").write_text(f"{name}\n")
+        for path in (graph, graph.parent, folder, layers):
             done = run(program, path)
             expect(f"{compiler}: open_path {path}", (done.returncode, done.stdout) == (0, "11 commits, layers: 1\n"), done)
+        commits = len(git(chain(scratch, kind), "rev-list", "main").split())
+        done = run(program, chain(scratch, kind) / ".git/objects/info")
+        expect(f"{compiler}: open_path, a chain", (done.returncode, done.stdout) == (0, f"{commits} commits, layers: 4\n"), done)
         if present("valgrind", "open_path under valgrind"):
             words = ["valgrind", "-q", "--error-exitcode=99", "--leak-check=full", "--errors-for-leak-kinds=all"]
             done = run(*words, program, folder)
@@ -625,14 +628,14 @@ def opened_path(compiler, archive, scratch, graphs):
         (folder / "commit-graph").write_bytes(data[:100])
         done = run(program, folder)
         expect(f"{compiler}: open_path, the chain alone", (done.returncode, done.stdout) == (0, "11 commits, layers: 1\n"), done)
-        (chain / "commit-graph-chain").write_text("")
-        refused = [(f"{chain}/commit-graph-chain", "the chain file names no layer")]
+        (layers / "commit-graph-chain").write_text("")
+        refused = [(f"{layers}/commit-graph-chain", "the chain file names no layer")]
         refused += [(f"{folder}/commit-graph", "the file has fewer than 1100 bytes: often it is truncated")]
         for path, why in refused:
             done = run(program, folder)
             told = done.stderr.startswith(f"{path}: {why}\nwhat to do: ")
             expect(f"{compiler}: open_path, {why}", done.returncode == 1 and told, done)
-            shutil.rmtree(chain, ignore_errors=True)
+            shutil.rmtree(layers, ignore_errors=True)
     done = run(program, "no/such/file")
     expect(f"{compiler}: open_path, none", done.stderr.startswith("no/such/file: no file or folder is at the path\nwhat to do: "), done)
 
