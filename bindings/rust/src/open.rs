@@ -55,13 +55,27 @@ pub(crate) fn open(path: &Path, place: Place) -> Result<Graph, OpenError> {
 
 /// The same, with the files of the layers.
 pub(crate) fn with_files(path: &Path, place: Place) -> Result<(Graph, Vec<LayerFile>), OpenError> {
-    open_alone(path, place).map_err(|error| {
-        let may_be_info = !error.is_settled() && matches!(place, Place::Anything | Place::InfoFolder);
-        match may_be_info.then(|| open_alone(&path.join("commit-graph"), Place::File)) {
-            Some(Err(file)) => OpenError::of_both(file, error),
-            _ => error,
-        }
-    })
+    let (root, asked) = root_and_asked(path);
+    let mut known = Vec::new();
+    let mut graph = match open_known(&mut known, root, asked, place) {
+        Ok(graph) => graph,
+        Err(error) => return Err(with_refusal_of_file(known, root, asked, error)),
+    };
+    let files = files_of(known, root, asked.as_bytes()).map_err(|_| OpenError::OutOfMemory)?;
+    graph.paths = collected(files.iter().map(|file| file.path.clone())).map_err(|_| OpenError::OutOfMemory)?;
+    Ok((graph, files))
+}
+
+/// Why a chain was not opened, and why the file of its info folder was not, if that was looked for.
+fn with_refusal_of_file(mut known: Vec<Known>, root: &Path, asked: &str, chain: OpenError) -> OpenError {
+    let file = known.iter().find(|it| it.path != asked.as_bytes() && it.path.ends_with(FILE)).map(|it| it.path.clone());
+    let Some(file) = file.filter(|_| !chain.is_settled()).and_then(|path| String::from_utf8(path).ok()) else {
+        return chain;
+    };
+    match open_known(&mut known, root, &file, Place::File) {
+        Err(file) => OpenError::of_both(file, chain),
+        Ok(_) => chain,
+    }
 }
 
 /// Of what is known where a graph was opened, the files of its layers: those that the lines of a chain file name, which stand behind
@@ -96,10 +110,8 @@ fn root_and_asked(path: &Path) -> (&Path, &str) {
     }
 }
 
-/// Opens what stands at a path, by as many calls as there are paths that the library asks for.
-fn open_alone(path: &Path, place: Place) -> Result<(Graph, Vec<LayerFile>), OpenError> {
-    let (root, asked) = root_and_asked(path);
-    let mut known: Vec<Known> = Vec::new();
+/// Opens what stands at a path, by as many calls as there are paths that the library asks for and that are not known.
+fn open_known(known: &mut Vec<Known>, root: &Path, asked: &str, place: Place) -> Result<Graph, OpenError> {
     loop {
         let mut raw = sys::CLOSED;
         let mut file = [0; ROOM];
@@ -111,14 +123,9 @@ fn open_alone(path: &Path, place: Place) -> Result<(Graph, Vec<LayerFile>), Open
         };
         let file = &file[..ROOM.min(told.length as usize)];
         match told.code {
-            codes::OK => {
-                let mut graph = Graph::of_raw(raw, Vec::new());
-                let files = files_of(known, root, asked.as_bytes()).map_err(|_| OpenError::OutOfMemory)?;
-                graph.paths = collected(files.iter().map(|file| file.path.clone())).map_err(|_| OpenError::OutOfMemory)?;
-                return Ok((graph, files));
-            }
-            codes::PATH_WANTED if told.length as usize <= ROOM => learn(&mut known, root, file).map_err(|_| OpenError::OutOfMemory)?,
-            _ => return Err(refusal(&told, path, root, file, known)),
+            codes::OK => return Ok(Graph::of_raw(raw, Vec::new())),
+            codes::PATH_WANTED if told.length as usize <= ROOM => learn(known, root, file).map_err(|_| OpenError::OutOfMemory)?,
+            _ => return Err(refusal(&told, root, asked, file, known)),
         }
     }
 }
@@ -202,34 +209,39 @@ impl Known {
 }
 
 /// Why no graph was opened at a path; the file was the last that was to be read.
-fn refusal(told: &sys::PathError, path: &Path, root: &Path, file: &[u8], known: Vec<Known>) -> OpenError {
+fn refusal(told: &sys::PathError, root: &Path, asked: &str, file: &[u8], known: &[Known]) -> OpenError {
     let layer = told.layer as usize;
-    let whole = whole(root, file);
+    let path = whole(root, file);
     let nothing = || io::Error::from(ErrorKind::NotFound);
     match told.code {
         codes::OUT_OF_MEMORY => OpenError::OutOfMemory,
         codes::OPEN_NOTHING_FOUND => {
-            OpenError::Io { path: path.to_owned(), error: known.into_iter().find_map(said).unwrap_or_else(nothing) }
+            OpenError::Io { path: whole(root, asked.as_bytes()), error: known.iter().find_map(said).unwrap_or_else(nothing) }
         }
-        codes::OPEN_CHAIN_NOT_TEXT => OpenError::ChainLine { path: whole.with_file_name("commit-graph-chain"), line: layer },
+        codes::OPEN_CHAIN_NOT_TEXT => OpenError::ChainLine { path: path.with_file_name("commit-graph-chain"), line: layer },
         code => match (FileError::of(code), GraphError::of(code, layer)) {
-            (Some(error), _) => OpenError::Layer { layer, path: whole, error },
-            (_, Some(error)) => OpenError::Graph { path: whole.with_file_name("commit-graph-chain"), error },
+            (Some(error), _) => OpenError::Layer { layer, path, error },
+            (_, Some(error)) => OpenError::Graph { path: path.with_file_name("commit-graph-chain"), error },
             _ => {
-                let unread = known.into_iter().find(|it| it.path == file);
-                OpenError::Io { error: unread.and_then(said).unwrap_or_else(nothing), path: whole }
+                let unread = known.iter().find(|it| it.path == file);
+                OpenError::Io { error: unread.and_then(said).unwrap_or_else(nothing), path }
             }
         },
     }
 }
 
 /// What the system said of a file that was not read.
-fn said(known: Known) -> Option<io::Error> {
-    match known.standing {
-        Standing::Nothing(error) | Standing::NotOpened(error) | Standing::NotRead(error) => Some(error),
+fn said(known: &Known) -> Option<io::Error> {
+    match &known.standing {
+        Standing::Nothing(error) | Standing::NotOpened(error) | Standing::NotRead(error) => Some(copied(error)),
         Standing::Folder => Some(io::Error::from_raw_os_error(IS_FOLDER)),
         Standing::File(_) | Standing::NoMemory => None,
     }
+}
+
+/// The same error: the system's by its number, others by kind and text.
+fn copied(error: &io::Error) -> io::Error {
+    error.raw_os_error().map_or_else(|| io::Error::new(error.kind(), error.to_string()), io::Error::from_raw_os_error)
 }
 
 /// The lines of a chain file, `commit-graph-chain`, each of which names a layer, from the lowest on: the line L is the layer of

@@ -7,9 +7,12 @@ use commitgraph::{DatesError, Flag, LayerFault, Limit, Mismatch, Place, QueryErr
 use made::{git, long_lists, made};
 use std::error::Error;
 use std::ffi::OsStr;
-use std::fs;
+use std::fs::{self, OpenOptions};
+use std::io::Write;
 use std::os::unix::ffi::OsStrExt;
 use std::path::{Path, PathBuf};
+use std::process::Command;
+use std::thread;
 
 /// The positions that a check calls its processor on, which refuses the one at `refused`, and what the check answers.
 fn called(graph: &Graph, refused: Option<Position>) -> (Vec<Position>, Result<u32, VerifyError<&'static str>>) {
@@ -351,6 +354,24 @@ fn neither_refusal_of_an_info_folder_hides_the_other() {
     // What neither path leads to is not there to be removed.
     let error = Graph::from_info_dir(folder.join("n".repeat(300))).unwrap_err();
     assert!(error.advice().contains("check permissions") && !error.advice().starts_with("remove"), "{error}");
+}
+
+#[test]
+fn the_file_of_an_info_folder_is_read_once() {
+    let folder = folder("read-once");
+    let pipe = folder.join("commit-graph");
+    assert!(Command::new("mkfifo").arg(&pipe).status().unwrap().success());
+    let written = thread::spawn({
+        let pipe = pipe.clone();
+        move || {
+            let mut file = OpenOptions::new().write(true).open(&pipe).unwrap();
+            fs::remove_file(&pipe).unwrap();
+            file.write_all(b"CGPH").unwrap();
+        }
+    });
+    let error = Graph::from_info_dir(&folder).unwrap_err();
+    written.join().unwrap();
+    assert!(matches!(&error, OpenError::Layer { path, error: FileError::TooShort, .. } if *path == pipe), "{error}");
 }
 
 #[test]
