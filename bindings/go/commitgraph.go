@@ -1,7 +1,13 @@
 // Package commitgraph reads, checks and writes Git's commit-graph files by proved code.
 //
-// It calls libcommitgraph, which pkg-config has to find. The calls are proved, this package is not. Any number of goroutines may
-// ask one graph at a time; Close is called when none does.
+// A graph is checked as it is opened. The text of an error names the file and the commit, and what to type; a NeitherError tells
+// why neither the file nor the chain of a folder opens. LookupAll, IDs and CompareAll ask about many commits in one call.
+// OpenWithin, IsAncestorWithin and CompareWithin stop when their context is done; of a check OpenWithin stops all but the reading
+// and the digests of the files. WriteFile and WriteLayer make the bytes that Git writes of commits.
+//
+// It calls libcommitgraph, which pkg-config has to find as the package is built, and the system as a program starts. The calls are
+// proved, this package is not: commitgraph_test.go compares its answers with what Git says. Any number of goroutines may ask one
+// graph at a time; Close is called when none does.
 package commitgraph
 
 /*

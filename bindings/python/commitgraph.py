@@ -4,8 +4,13 @@
         for position in range(len(graph)):
             print(graph.id(position).hex(), graph.parents(position))
 
-It calls libcommitgraph.so.0, which is looked for in the folder that COMMITGRAPH_LIB names, in this clone, where
-`scripts/library` makes it, and then where the system looks. The calls are proved, this module is not.
+A graph is checked as it is opened. An Error has a `code` of Code; its text names the file and the commit, and what to type. A
+NeitherError tells why neither the file nor the chain of a folder opens. A file that cannot be read is an OSError. `lookup_all`,
+`ids` and `compare_all` ask about many commits in one call; `visits` and `flag` stop a search or a check before its end. `write_file`
+and `write_layer` make the bytes that Git writes of commits.
+
+It calls libcommitgraph.so.0, which is looked for in the folder that COMMITGRAPH_LIB names; where that is not set, in this clone, where
+`scripts/library` makes it, and then where the system looks. The calls are proved, this module is not: test_commitgraph.py tests it.
 """
 
 import ctypes
