@@ -10,6 +10,7 @@ mod parents;
 pub mod verify;
 
 pub use access::{BaseIds, Commits, Ids};
+use bytes::Bytes;
 pub use commit::Commit;
 pub use graph_format::file::Position;
 use graph_format::layout::Layout;
@@ -22,7 +23,9 @@ use std::marker::Model;
 /// layer.
 #[derive(Drop)]
 pub struct File {
-    bytes: Vec<u8>,
+    // Owned, or lent for ever. With a `&'static [u8]` here each signature with a `File` would name
+    // `'static`, and no proof is made of one that also has a closure with a lifetime in its bound.
+    bytes: Bytes,
     path: String,
     layout: Layout,
     records: Records,
@@ -37,7 +40,7 @@ impl Model for File {
 
     ghost use Rattle.graph_layer.specs.FileState.{IsFileState};
 
-    ghost view = { λ a. decoded_layer a.bytes.items (string_bytes a.path) };
+    ghost view = { λ a. decoded_layer a.bytes (string_bytes a.path) };
 
     ghost invariant = { IsFileState };
 }

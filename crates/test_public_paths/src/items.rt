@@ -53,7 +53,8 @@ use std::collections::{BTreeMap, HashMap};
 use std::rt::Files;
 
 fn files<R: Files>(alloc: Global, file: &File) -> bool {
-    let _ = (File::new, File::at::<R>, File::path, ChecksumMismatch);
+    let _ = (File::new, File::from_static, File::at::<R>);
+    let _ = (File::path, ChecksumMismatch);
     let _ = (File::base_graph_count, File::object_hash);
     let _ = (File::num_commits, File::checksum, File::id_at);
     let _ = (File::commit_at, File::lookup, File::lookup_counted);

@@ -65,7 +65,7 @@ impl File {
     pub fn bytes(&self) -> &[u8]
         ensures { result.now ≡ bytes_of self.now }
     {
-        &self.bytes
+        self.bytes.as_slice()
     }
 
     /// The checksum as it is stored after the last chunk: the section "TRAILER". Whether it is the
@@ -73,7 +73,8 @@ impl File {
     pub fn checksum(&self) -> oid<'_>
         ensures { oid_bytes result ≡ self.now.checksum }
     {
-        id_from(&self.bytes, self.layout.trailer_start, self.object_hash())
+        let bytes = self.bytes.as_slice();
+        id_from(bytes, self.layout.trailer_start, self.object_hash())
     }
 
     /// The id of the commit at a position below `num_commits()`: the section "OID Lookup".
@@ -81,9 +82,10 @@ impl File {
         requires { pos.0 < length self.now.ids }
         ensures { slice_get self.now.ids pos.0 ≡ Some (oid_bytes result) }
     {
+        let bytes = self.bytes.as_slice();
         let kind = self.object_hash();
         let start = self.layout.chunks.ids.start + kind.len_in_bytes() * pos.0 as usize;
-        id_from(&self.bytes, start, kind)
+        id_from(bytes, start, kind)
     }
 
     /// The commit at a position below `num_commits()`: the section "Commit Data".
@@ -100,8 +102,9 @@ impl File {
     pub fn chunk(&self, id: [u8; 4]) -> Option<&[u8]>
         ensures { option_map (λ chunk. chunk.now) result ≡ chunk_of (bytes_of self.now) id }
     {
-        match find_chunk(&self.bytes, id) {
-            Some(place) => Some(&self.bytes[place.start..place.end]),
+        let bytes = self.bytes.as_slice();
+        match find_chunk(bytes, id) {
+            Some(place) => Some(&bytes[place.start..place.end]),
             None => None,
         }
     }
@@ -132,16 +135,17 @@ impl File {
         requires { index < length self.now.bases }
         ensures { slice_get self.now.bases index ≡ Some (oid_bytes result) }
     {
+        let bytes = self.bytes.as_slice();
         let kind = self.object_hash();
         let start = start_of(self.layout.chunks.bases) + kind.len_in_bytes() * index as usize;
-        id_from(&self.bytes, start, kind)
+        id_from(bytes, start, kind)
     }
 
     /// Whether two files have the same bytes.
     pub(super) fn has_bytes_of(&self, other: &File) -> bool
         ensures { result ≡ bytes_eq (bytes_of self.now) (bytes_of other.now) }
     {
-        self.bytes == other.bytes
+        self.bytes() == other.bytes()
     }
 
     /// The id of a commit's root tree.
@@ -149,9 +153,10 @@ impl File {
         requires { pos.0 < length self.now.ids }
         ensures { oid_bytes result ≡ (record_at self.now pos.0).tree }
     {
+        let bytes = self.bytes.as_slice();
         let kind = self.object_hash();
         let start = self.layout.chunks.records.start + record_len(kind) * pos.0 as usize;
-        id_from(&self.bytes, start, kind)
+        id_from(bytes, start, kind)
     }
 
     /// The generation numbers of the commits, in the order of their positions.

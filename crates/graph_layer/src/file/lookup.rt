@@ -63,6 +63,7 @@ impl File {
         if self.layout.kind.len_in_bytes() != size {
             return (None, comparisons);
         }
+        let bytes = self.bytes.as_slice();
         let ids = self.layout.chunks.ids.start;
         let (low, high) = self.bucket(wanted[0]);
         // So many ids are left, the first of which begins at `first`. Before the middle one there
@@ -71,7 +72,7 @@ impl File {
         let mut first = ids + size * low as usize;
         while left > 0 {
             let middle = first + size * (left / 2);
-            let other = &self.bytes[middle..middle + size];
+            let other = &bytes[middle..middle + size];
             comparisons += 1;
             match compare_ids(wanted, other) {
                 Ordering::Less => {}
@@ -110,7 +111,7 @@ impl File {
         ensures rises { 0 < byte → slice_index self.now.fan (byte - 1) ≤ result }
         ensures within { result ≤ length self.now.ids }
     {
-        fan_at(&self.bytes, self.layout.chunks.fan, byte as usize)
+        fan_at(self.bytes.as_slice(), self.layout.chunks.fan, byte as usize)
     }
 
     /// The bytes of the id at a position, where ids have so many bytes.
@@ -120,7 +121,8 @@ impl File {
         ensures id { slice_get self.now.ids pos ≡ Some result.now }
         ensures len { length result.now ≡ size }
     {
+        let bytes = self.bytes.as_slice();
         let start = self.layout.chunks.ids.start + size * pos as usize;
-        &self.bytes[start..start + size]
+        &bytes[start..start + size]
     }
 }

@@ -3,7 +3,7 @@ use Rattle.graph_layer.proofs.BucketLemmas.{view-fan, view-fan-below, view-fan-r
 use Rattle.graph_layer.proofs.file.File.fan_number.Goals as goal
 
 pub returns-clause-number : goal.returns-clause-number
-returns-clause-number c = c.fan_at.ensures ∙ rw c.deref.ensures.value (view-fan _ _ _ _ c.self.view_is)
+returns-clause-number c = c.fan_at.ensures ∙ rw c.as_slice.ensures (view-fan _ _ _ _ c.self.view_is)
 
 pub returns-clause-rises : goal.returns-clause-rises
 returns-clause-rises c some =

@@ -1,4 +1,4 @@
-use Rattle.std.proofs.Common.{◌≡◌, ◌+◌, ◌-◌, ◌/◌, ◌^◌, ◌<◌, length, slice_index, sym, ap, ◌∙◌, arith}
+use Rattle.std.proofs.Common.{◌≡◌, ◌+◌, ◌-◌, ◌/◌, ◌^◌, ◌<◌, slice_index, sym, ap, ◌∙◌, arith}
 use Rattle.gix_hash_core.specs.Kind.{id_len}
 use Rattle.graph_format.specs.Lookup.{bucket_size}
 use Rattle.graph_layer.proofs.BucketLemmas.{view-other_len}
@@ -19,10 +19,13 @@ pub loop-left-init : goal.loop-left-init
 loop-left-init c =
     let byte : slice_index c.as_bytes-wanted.result.now 0 < 256 = omega (arith, c.type_inv.wanted 0) in
     record {
-      left = left-bucket _ _ _ _ _ _ _ _ c.self.invariant.layout c.self.view_is
+      left =
+          rw c.as_slice-bytes.ensures
+          (left-bucket _ _ _ _ _ _ _ _ c.self.invariant.layout c.self.view_is
           (sym c.if-len_in_bytes-size.false ∙ c.len_in_bytes.ensures
           ∙ ap id_len (view-kind _ _ _ _ c.self.invariant.layout c.self.view_is)) c.bucket-low.ensures.order
-          c.bucket-low.ensures.within (rw (c.bucket-low.ensures.start, c.bucket-low.ensures.end) (stands_within-bucket _ _ byte));
+          c.bucket-low.ensures.within
+          (rw (c.bucket-low.ensures.start, c.bucket-low.ensures.end) (stands_within-bucket _ _ byte)));
       counted = rw (c.bucket-low.ensures.start, c.bucket-low.ensures.end) (omega arith);
     }
 
@@ -31,7 +34,7 @@ overflow_mul-middle c =
     omega (
       arith,
       c.loop-left.invariant.left.fits (c.loop-left.left / 2) (omega (arith, c.loop-left-test.true)),
-      c.self.inside.bytes.small,
+      c.as_slice-bytes.type_inv,
     )
 
 pub overflow_add-middle : goal.overflow_add-middle
@@ -39,7 +42,7 @@ overflow_add-middle c =
     omega (
       arith,
       c.loop-left.invariant.left.fits (c.loop-left.left / 2) (omega (arith, c.loop-left-test.true)),
-      c.self.inside.bytes.small,
+      c.as_slice-bytes.type_inv,
     )
 
 -- one comparison, and half is left
@@ -59,16 +62,14 @@ overflow_add-other c =
     omega (
       arith,
       c.loop-left.invariant.left.fits (c.loop-left.left / 2) (omega (arith, c.loop-left-test.true)),
-      c.self.inside.bytes.small,
+      c.as_slice-bytes.type_inv,
     )
 
 pub slice_bounds-other-end : goal.slice_bounds-other-end
 slice_bounds-other-end c =
-    let long = ap length c.deref.ensures.value in
     omega (
       arith,
       c.loop-left.invariant.left.fits (c.loop-left.left / 2) (omega (arith, c.loop-left-test.true)),
-      long,
     )
 
 pub overflow_sub-pos : goal.overflow_sub-pos
@@ -88,7 +89,7 @@ pub returns-in-Equal-clause-found : goal.returns-in-Equal-clause-found
 returns-in-Equal-clause-found c =
     rw (left-position (c.loop-left.left / 2) c.loop-left.invariant.left, ← c.as_bytes-wanted.ensures.bytes)
     (found-equal _ _ _ _
-    (rw c.deref.ensures.value (c.loop-left.invariant.left.each (c.loop-left.left / 2) (omega (arith, c.loop-left-test.true))))
+    (c.loop-left.invariant.left.each (c.loop-left.left / 2) (omega (arith, c.loop-left-test.true)))
     (sym c.in-Equal.ensures))
 
 pub returns-in-Equal-clause-most : goal.returns-in-Equal-clause-most
@@ -111,13 +112,13 @@ loop-left-preserved c =
       | in-Less w ↦
           rw (w.first-is, w.left-is)
           (record {
-            left = left-before half c.loop-left.invariant.left some (rw c.deref.ensures.value there) (sym w.in-Less.ensures);
+            left = left-before half c.loop-left.invariant.left some there (sym w.in-Less.ensures);
             counted = omega (arith, c.loop-left.invariant.counted, fewer half (omega (arith, some)) (omega arith));
           })
       | in-Greater w ↦
           rw (w.first-is, w.left-is, rest)
           (record {
-            left = left-after half c.loop-left.invariant.left some (rw c.deref.ensures.value there) (sym w.in-Greater.ensures);
+            left = left-after half c.loop-left.invariant.left some there (sym w.in-Greater.ensures);
             counted = omega (
               arith,
               c.loop-left.invariant.counted,

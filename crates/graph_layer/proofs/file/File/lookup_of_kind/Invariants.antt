@@ -5,7 +5,7 @@ use Rattle.graph_layer.proofs.file.File.lookup_of_kind.Given as goal
 
 abbrev pub invariant-loop-left : goal.invariant-loop-left
 invariant-loop-left l = record {
-  left : AreLeft l.self-inside.bytes.items l.self l.wanted l.ids l.size l.high l.first l.left;
+  left : AreLeft l.bytes l.self l.wanted l.ids l.size l.high l.first l.left;
   counted : l.comparisons + digits l.left ≤ digits (bucket_size l.self.fan (slice_index l.wanted 0));
 }
 
