@@ -7,18 +7,19 @@
  * - A pointer is valid for the length beside it. Beside a length of 0 it may be NULL (this is tested; the proofs speak of pointers
  *   that are not null). No other pointer may be NULL. What a call writes does not overlap what it reads, and what it reads does
  *   not change until it returns (a mapped file can change: see cg_open).
- * - A cg_graph is CG_CLOSED, or a copy of what cg_open, cg_open_known, cg_open_checked, cg_check or cg_check_within wrote, and
- *   none of cg_close, cg_check and cg_check_within was yet given it. All copies are one graph. Nobody looks into it or changes it.
+ * - A cg_graph is CG_CLOSED, or a copy of what cg_open, cg_open_lent, cg_open_known, cg_open_checked, cg_check or cg_check_within
+ *   wrote, and none of cg_close, cg_check and cg_check_within was yet given it. All copies are one graph. Nobody looks into it or
+ *   changes it.
  * - Threads: any number of calls may read one graph at a time, and none waits for another. cg_close, or cg_check, or
  *   cg_check_within, is called once, when no call on the graph is running, and none follows.
- * - No call keeps a pointer that it was given. No call is made from a signal handler, or in the child of a process with
+ * - No call keeps a pointer that it was given, but cg_open_lent those to the bytes. No call is made from a signal handler, or in the child of a process with
  *   threads before it execs. Memory comes from malloc, realloc and free.
  * - What an out parameter holds before a call does not matter, but for the cg_graph, the cg_bytes or the cg_flag that a call hands
  *   out, which has to be CG_CLOSED, CG_NO_BYTES or CG_NO_FLAG, and for a cg_lent, which has to be CG_NOT_LENT or what was lent before.
  * - Where a call answers a code, CG_OK, 0, is a full answer, and any other the number of the cause: see CG_OK. Other codes than
  *   those that are named beside a call do not come. Calls with a graph that is CG_CLOSED answer CG_CLOSED_GRAPH, or as each says.
  *
- * Costs. Opening copies all bytes and decodes the records. A check reads all of them, with a digest of each file. A lookup goes over the
+ * Costs. Opening copies all bytes (cg_open_lent: none) and decodes the records. A check reads all of them, with a digest of each file. A lookup goes over the
  * layers from the lowest on, and searches each by halves; a call for a position finds its layer by halves; one for a layer counts
  * those below it. Writing into a room costs what is written. Comments say where a call costs more.
  *
@@ -193,13 +194,21 @@ typedef struct cg_error { uint32_t code; uint64_t layer; } cg_error;
  * graph, which is the caller's to close; else *out is left as it was. What *out was before is not freed: let it be CG_CLOSED. Where
  * `count` is 0, the code is CG_GRAPH_NO_FILES; cg_strerror and cg_advice then speak of an empty chain file.
  *
- * The bytes and the paths are copied, and may go once the call has returned. No call keeps the caller's own: whoever changed
- * bytes that were lent, as another process changes a mapped file, would change a graph that was checked. A graph takes 20 bytes
- * a commit, and 4 a word of the extra edge list, besides the bytes. What is no layer is refused before it is copied. All that is
- * read of a graph is read of the copy: where a mapped file changes meanwhile, the graph is one of the bytes that were copied, but
- * no proof says so. A mapped file that gets shorter meanwhile ends the program by SIGBUS, as any read of it does. Whoever fears a
- * change reads the file instead. */
+ * The bytes and the paths are copied, and may go once the call has returned: who would have the bytes kept where they are takes
+ * cg_open_lent. A graph takes 20 bytes a commit, and 4 a word of the extra edge list, besides the bytes. What is no layer is refused
+ * before it is copied. All that is read of a graph is read of the copy: where a mapped file changes meanwhile, the graph is one of
+ * the bytes that were copied, but no proof says so. A mapped file that gets shorter meanwhile ends the program by SIGBUS, as any read
+ * of it does. Whoever fears a change reads the file instead. */
 cg_error cg_open(const cg_file *files, size_t count, cg_graph *out);
+
+/* Opens the graph as cg_open does, and answers as it does, but keeps the bytes that it is lent, and copies none. The paths are copied.
+ * The bytes have to stay where they are, unchanged, until cg_close has returned, or a cg_check or cg_check_within that refuses the
+ * graph: the graph that these hand out has them too. Where this call refuses them, none is kept.
+ *
+ * Every promise is about bytes that do not change. If another process changes a mapped file after the call, no promise holds any
+ * more: a call may read outside the graph's memory. If the file gets shorter, a call may end the program by SIGBUS. So lend only
+ * what nobody writes, or a private copy. Git never changes a commit-graph file in place: it writes a new file and renames it. */
+cg_error cg_open_lent(const cg_file *files, size_t count, cg_graph *out);
 
 /* What cg_open_known is to open. */
 enum cg_place { CG_ANYTHING = 0, CG_FILE = 1, CG_CHAIN_FOLDER = 2, CG_INFO_FOLDER = 3 };

@@ -725,6 +725,32 @@ static bool same_checked(const cg_file *files, size_t files_count, cg_graph grap
     return cg_close(checked) == !code && good && verdict.called == (code ? 0 : found.called);
 }
 
+/* Whether an id lies in the bytes of one of the files. */
+static bool lies_in(cg_lent lent, const cg_file *files, size_t files_count) {
+    for (size_t i = 0; i < files_count; i++)
+        if (lent.bytes >= files[i].bytes && lent.bytes + lent.len <= files[i].bytes + files[i].len) return true;
+    return false;
+}
+
+/* Whether bytes that are lent are opened as a copy of them is, are read where they are, also once the graph is checked, and are
+ * refused as by cg_open. */
+static bool same_lent(const cg_file *files, size_t files_count) {
+    cg_graph copied = CG_CLOSED, opened = CG_CLOSED, checked = CG_CLOSED;
+    cg_verdict found, verdict = { .code = 7 };
+    cg_count counts[ROOM];
+    cg_lent lent = CG_NOT_LENT;
+    cg_error error = cg_open(files, files_count, &copied), told = cg_open_lent(files, files_count, &opened);
+    if (told.code != error.code || told.layer != error.layer || opened.opened != copied.opened) return false;
+    if (error.code) return cg_open_lent(NULL, 0, &opened).code == CG_GRAPH_NO_FILES && !cg_close(opened);
+    uint32_t code = cg_verify(copied, false, &found, counts, ROOM), last = cg_num_commits(copied) - 1;
+    bool good = same_layers(opened, copied) && cg_lend_id(opened, last, &lent) == (last != UINT32_MAX);
+    good = good && (!lent.len || lies_in(lent, files, files_count));
+    good = good && cg_lookup(opened, lent.bytes, lent.len) == cg_lookup(copied, lent.bytes, lent.len);
+    good = good && cg_check(opened, false, &verdict, counts, ROOM, &checked) == code && verdict.position == found.position;
+    good = good && (code || same_layers(checked, copied)) && cg_close(checked) == !code;
+    return cg_close(copied) && good;
+}
+
 /* What stands at a path. */
 static cg_known look(const char *path, size_t len) {
     cg_known known = { path, len, NULL_BYTES, 0, CG_NOTHING };
@@ -831,6 +857,7 @@ int main(int argc, char **argv) {
     bool asks = strchr("ab", argv[2][0]) || !strcmp(argv[2], "parents");
     cg_error error = asks ? cg_open_checked(files, count, false, &verdict, counts, 1, &graph) : cg_open(files, count, &graph);
     if (!error.code && !same_checked(files, count, graph)) return 9;
+    if (!same_lent(files, count)) return 9;
     size_t path = chain ? (size_t)(chain - argv[1]) : strlen(argv[1]);
     for (uint32_t what = CG_ANYTHING, step = chain ? CG_CHAIN_FOLDER : CG_FILE; error.code < 300 && what <= step; what += step)
         if (!same_at(argv[1], path, what, error, graph)) return 9;

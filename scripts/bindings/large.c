@@ -171,7 +171,7 @@ static void stop(const cg_file *file, cg_graph graph, cg_pair pair) {
         agree(leads.code == (turn ? CG_STOPPED : CG_OK) && leads.found == (!turn && whole.length));
         cg_graph opened = CG_CLOSED, checked = CG_CLOSED;
         cg_verdict verdict;
-        agree(!cg_open(file, 1, &opened).code);
+        agree(!cg_open_lent(file, 1, &opened).code);
         uint32_t code = cg_check_within(opened, true, limit, &verdict, NULL, 0, &checked);
         agree(code == (turn ? CG_STOPPED : CG_OK) && verdict.position == (turn == 1 ? KINDS / 2 : 0));
         agree(cg_close(checked) == !code);

@@ -81,6 +81,12 @@ static outcome open_graph(void) {
     return opening(error, opened);
 }
 
+static outcome open_lent(void) {
+    cg_graph opened = { files, false };
+    cg_error error = cg_open_lent(files, layers, &opened);
+    return opening(error, opened);
+}
+
 /* Bytes that do not begin as a layer does: they are not copied. */
 static outcome open_wrong(void) {
     static uint8_t wrong[BYTES];
@@ -381,6 +387,7 @@ int main(int argc, char **argv) {
     from = position_of(argv[1]);
     to = position_of(argv[2]);
     printf("open %ld\n", refusals("open", open_graph));
+    printf("open_lent %ld\n", refusals("open_lent", open_lent));
     printf("open_wrong %ld\n", refusals("open_wrong", open_wrong));
     printf("open_checked %ld\n", refusals("open_checked", open_checked));
     printf("open_known %ld\n", refusals("open_known", open_known));

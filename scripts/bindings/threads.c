@@ -18,7 +18,7 @@ static uint32_t opened(void) {
     cg_count counts[1];
     const char *path = (const char *)file.path;
     cg_known known = { path, file.path_len, file.bytes, file.len, CG_READ };
-    cg_error error = cg_open(&file, 1, &own);
+    cg_error error = cg_open_lent(&file, 1, &own);
     char room[1];
     cg_path_error told = cg_open_known(path, file.path_len, CG_ANYTHING, &known, 1, room, 1, &other);
     uint32_t count = cg_num_commits(own) + cg_check(other, true, &verdict, counts, 1, &checked) + cg_num_commits(checked);

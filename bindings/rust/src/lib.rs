@@ -135,6 +135,16 @@ impl Graph {
         .map(|(graph, _)| graph)
     }
 
+    /// The graph of layers whose bytes are lent for ever, each with the path of its file, the lowest first. The bytes stay where
+    /// they are, and none is copied: a program that maps a file and never unmaps it may lend it, if nobody changes it.
+    pub fn of_static(layers: &[(&'static [u8], &str)]) -> Result<Graph, OpenError> {
+        Graph::opened(layers, |files, raw, _| {
+            // SAFETY: as in `of_bytes`; and the bytes stay as they are for ever.
+            unsafe { sys::cg_open_lent(files.as_ptr(), files.len(), raw) }
+        })
+        .map(|(graph, _)| graph)
+    }
+
     /// The graph that a call has opened, of files at these paths.
     pub(crate) fn of_raw(raw: sys::Graph, paths: Vec<PathBuf>) -> Graph {
         // SAFETY: `raw` is open.

@@ -264,6 +264,7 @@ pub struct WriteError {
 extern "C" {
     pub fn cg_version() -> u32;
     pub fn cg_open(files: *const File, count: usize, out: *mut Graph) -> Error;
+    pub fn cg_open_lent(files: *const File, count: usize, out: *mut Graph) -> Error;
     pub fn cg_open_checked(
         files: *const File,
         count: usize,

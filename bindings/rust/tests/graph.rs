@@ -78,6 +78,35 @@ fn each_opener_opens_what_stands_at_its_path() {
     assert_eq!(ids(Graph::from_info_dir(folder.parent().unwrap()).unwrap()), chain);
 }
 
+/// The bytes of the layers at a path, lent for ever, and the paths of their files.
+fn lent(path: &Path) -> Vec<(&'static [u8], String)> {
+    let (_, files) = Graph::open_with_files(path, Place::Anything).unwrap();
+    files.into_iter().map(|file| (&*file.bytes.leak(), file.path.to_str().unwrap().to_owned())).collect()
+}
+
+#[test]
+fn lent_bytes_are_read_where_they_are() {
+    for path in [&made().file, &made().chain] {
+        let files = lent(path);
+        let layers: Vec<(&'static [u8], &str)> = files.iter().map(|(bytes, path)| (*bytes, &**path)).collect();
+        let graph = Graph::of_static(&layers).unwrap();
+        let last = graph.commit_at(Position(graph.num_commits() - 1));
+        let (id, tree) = (last.id_bytes().as_ptr_range(), last.root_tree_id_bytes().as_ptr_range());
+        let own = layers.last().unwrap().0.as_ptr_range();
+        assert!(own.contains(&id.start) && own.contains(&tree.start));
+        assert_eq!(ids(graph), ids(Graph::at(path).unwrap()));
+        let checked = Checked::of_graph(Graph::of_static(&layers).unwrap(), VerifyOptions::default()).unwrap();
+        assert_eq!(ids(Graph::at(path).unwrap()), checked.graph().iter_ids().collect::<Vec<_>>());
+        let refused = |layers: &[(&'static [u8], &str)]| Graph::of_static(layers).unwrap_err().to_string();
+        assert_eq!(refused(&[]), Graph::of_bytes(&[]).unwrap_err().to_string());
+        let cut = [(&layers[0].0[1..], layers[0].1)];
+        assert_eq!(refused(&cut), Graph::of_bytes(&cut).unwrap_err().to_string());
+    }
+    let faulty: &'static [u8] = fs::read(&made().faulty).unwrap().leak();
+    let graph = Graph::of_static(&[(faulty, "")]).unwrap();
+    assert!(Checked::of_graph(graph, VerifyOptions::default()).is_err());
+}
+
 #[test]
 fn blocks_tell_of_each_commit_once() {
     let graph = Graph::at(&made().chain).unwrap();

@@ -17,6 +17,7 @@ mod handle;
 mod kept;
 mod kept_handle;
 mod known;
+mod layer;
 mod open;
 mod opened;
 pub mod paths;
@@ -31,7 +32,7 @@ pub use handle::{CgAddress, CgGraph, CgOwned, CgOwner};
 pub use kept::Kept;
 pub use kept_handle::{CgBytes, CgBytesAddress, CgBytesOwned, CgBytesOwner};
 pub use known::CgKnown;
-pub use open::{CgError, CgFile, cg_check, cg_close, cg_open, cg_open_checked};
+pub use open::{CgError, CgFile, cg_check, cg_close, cg_open, cg_open_checked, cg_open_lent};
 pub use opened::Opened;
 pub use paths::{CgPathError, cg_open_known};
 pub use read::{

@@ -14,14 +14,14 @@ ghost use Rattle.c_opening.specs.Verdict.{FailsCheck, TellsCounts, TellsStats, o
 ghost use Rattle.c_opening.specs.Verdict.{TellsRefusal, closed_verdict, told_unopened};
 
 use crate::check::{CgCount, CgVerdict, refused, right, wrong};
-use crate::codes::{CLOSED_GRAPH, PATH_NOT_UTF8, file_code, graph_code};
+use crate::codes::{CLOSED_GRAPH, file_code, graph_code};
 use crate::handle::CgOwner;
+use crate::layer::{open_layer, open_lent_layer};
 use crate::opened::Opened;
 use gix_commitgraph::verify::VerifyOptions;
 use gix_commitgraph::{File, FileError, Graph, GraphError};
-use graph_format::layout::layout_of;
 use graph_history::CheckedGraph;
-use std::alloc::{AllocError, Global};
+use std::alloc::Global;
 
 /// The bytes of a layer, and the path of its file: for C two pointers, each with a length.
 #[repr(C)]
@@ -41,7 +41,7 @@ pub struct CgError {
     pub layer: u64,
 }
 
-fn error(code: u32, layer: u64) -> CgError
+pub(crate) fn error(code: u32, layer: u64) -> CgError
     ensures code { result.code ≡ code }
     ensures layer { result.layer ≡ layer }
 {
@@ -56,11 +56,35 @@ pub fn cg_open(alloc: Global, files: &[CgFile<'_>], out: &mut CgOwner) -> CgErro
     ensures kept { result.code ≢ 0 → out.new ≡ out.old }
     ensures refused { result.code ≢ 0 → RefusesFiles files.now result }
 {
-    let opened = match open(alloc, files) {
-        Ok(graph) => boxed(alloc, Opened::unchecked(graph)),
-        Err(error) => return error,
-    };
-    match opened {
+    match open(alloc, files) {
+        Ok(graph) => write_unchecked(alloc, graph, out),
+        Err(error) => error,
+    }
+}
+
+/// Opens the graph of these layers as `cg_open` does, and keeps their bytes where they are. Where
+/// it is refused, nothing is written.
+pub fn cg_open_lent(alloc: Global, files: &[CgFile<'static>], out: &mut CgOwner) -> CgError
+    ensures opened { result.code ≡ 0 → IsSomeAnd out.new.address.held (λ held.
+        (held.1 ≡ false) × IsOpenedFrom files.now held.0) }
+    ensures told { result.code ≡ 0 → result ≡ no_error }
+    ensures kept { result.code ≢ 0 → out.new ≡ out.old }
+    ensures refused { result.code ≢ 0 → RefusesFiles files.now result }
+{
+    match open_lent(alloc, files) {
+        Ok(lent) => write_unchecked(alloc, lent, out),
+        Err(refusal) => refusal,
+    }
+}
+
+/// Writes a graph that was not checked, unless there is no memory for its block.
+fn write_unchecked(alloc: Global, graph: Graph, out: &mut CgOwner) -> CgError
+    ensures opened { result.code ≡ 0 → out.new.address.held ≡ Some (graph, false) }
+    ensures told { result.code ≡ 0 → result ≡ no_error }
+    ensures refused { result.code ≢ 0 → result ≡ told_graph GraphError.OutOfMemory }
+    ensures kept { result.code ≢ 0 → out.new ≡ out.old }
+{
+    match boxed(alloc, Opened::unchecked(graph)) {
         Ok(opened) => {
             out.write(opened);
             error(0, 0)
@@ -234,8 +258,27 @@ fn open(alloc: Global, files: &[CgFile<'_>]) -> Result<Graph, CgError>
     }
 }
 
+/// Opens each file with its bytes where they are, and makes a graph of the layers.
+fn open_lent(alloc: Global, files: &[CgFile<'static>]) -> Result<Graph, CgError>
+    ensures opened { IfOk result (IsOpenedFrom files.now) }
+    ensures refused { IfErr result (RefusesFiles files.now) }
+    ensures code { IfErr result (λ e. e.code ≢ 0) }
+{
+    let mut layers = Vec::new(alloc);
+    for file in files {
+        let place = layers.len() as u64;
+        let layer = open_lent_layer(alloc, *file, place)?;
+        add(&mut layers, layer, place)?;
+    }
+    let made = Graph::new(alloc, layers);
+    match made {
+        Ok(graph) => Ok(graph),
+        Err(refusal) => Err(graph_error(&refusal)),
+    }
+}
+
 /// Tells why the bytes of a layer are refused.
-fn file_error(refusal: &FileError, layer: u64) -> CgError
+pub(crate) fn file_error(refusal: &FileError, layer: u64) -> CgError
     ensures told { result ≡ told_file layer refusal.now }
     ensures code { result.code ≢ 0 }
 {
@@ -264,39 +307,4 @@ fn add(layers: &mut Vec<File>, layer: File, place: u64) -> Result<(), CgError>
         Ok(()) => Ok(()),
         Err(_) => Err(file_error(&FileError::OutOfMemory, place)),
     }
-}
-
-/// Opens a file, which is to be the layer of this place.
-#[tactic(auto, using(crate::proofs::Files::refused_bytes))]
-fn open_layer(alloc: Global, file: CgFile<'_>, place: u64) -> Result<File, CgError>
-    ensures layer { IfOk result (IsLayer file.entry.bytes.now file.entry.path.now) }
-    ensures text { IfOk result (λ _. IsUtf8 file.entry.path.now) }
-    ensures accepted { IfOk result (λ _. refusal file.entry.bytes.now ≡ None) }
-    ensures refused { IfErr result (RefusesFile place file.entry) }
-    ensures code { IfErr result (λ e. e.code ≢ 0) }
-{
-    let Ok(path) = str::from_utf8(file.path) else {
-        return Err(error(PATH_NOT_UTF8, place));
-    };
-    // Nothing is copied of what is no layer.
-    if let Err(refusal) = layout_of(file.bytes) {
-        return Err(file_error(&refusal, place));
-    }
-    let Ok((bytes, path)) = copies(alloc, file.bytes, path) else {
-        return Err(file_error(&FileError::OutOfMemory, place));
-    };
-    match File::new(alloc, bytes, path) {
-        Ok(file) => Ok(file),
-        Err(refusal) => Err(file_error(&refusal, place)),
-    }
-}
-
-/// Copies of the bytes and of the path, if there is memory.
-fn copies(alloc: Global, bytes: &[u8], path: &str) -> Result<(Vec<u8>, String), AllocError>
-    ensures bytes { IfOk result (λ r. r.0.items ≡ bytes.now) }
-    ensures path { IfOk result (λ r. string_bytes r.1 ≡ path.now) }
-{
-    let mut copy = Vec::with_capacity(alloc, bytes.len())?;
-    copy.extend_from_slice(bytes)?;
-    Ok((copy, String::from_str(alloc, path)?))
 }
