@@ -12,16 +12,16 @@
  *   changes it.
  * - Threads: any number of calls may read one graph at a time, and none waits for another. cg_close, or cg_check, or
  *   cg_check_within, is called once, when no call on the graph is running, and none follows.
- * - No call keeps a pointer that it was given, but cg_open_lent those to the bytes. No call is made from a signal handler, or in the child of a process with
- *   threads before it execs. Memory comes from malloc, realloc and free.
+ * - No call keeps a pointer that it was given, but cg_open_lent those to the bytes. No call is made from a signal handler, or in
+ *   the child of a process with threads before it execs. Memory comes from malloc, realloc and free.
  * - What an out parameter holds before a call does not matter, but for the cg_graph, the cg_bytes or the cg_flag that a call hands
  *   out, which has to be CG_CLOSED, CG_NO_BYTES or CG_NO_FLAG, and for a cg_lent, which has to be CG_NOT_LENT or what was lent before.
  * - Where a call answers a code, CG_OK, 0, is a full answer, and any other the number of the cause: see CG_OK. Other codes than
  *   those that are named beside a call do not come. Calls with a graph that is CG_CLOSED answer CG_CLOSED_GRAPH, or as each says.
  *
- * Costs. Opening copies all bytes (cg_open_lent: none) and decodes the records. A check reads all of them, with a digest of each file. A lookup goes over the
- * layers from the lowest on, and searches each by halves; a call for a position finds its layer by halves; one for a layer counts
- * those below it. Writing into a room costs what is written. Comments say where a call costs more.
+ * Costs. Opening decodes the records and copies all bytes; cg_open_lent copies none. A check reads all of them, with a digest of each
+ * file. A lookup goes over the layers from the lowest on, and searches each by halves; a call for a position finds its layer by
+ * halves; one for a layer counts those below it. Writing into a room costs what is written. Comments say where a call costs more.
  *
  * The library is for x86-64 Linux. Link with libcommitgraph.a or libcommitgraph.so.0; memory comes from the program's malloc.
  * Until version 1.0, a program is built with the header of the library that it is linked with: structs and numbers may change
