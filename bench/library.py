@@ -10,11 +10,11 @@ turn, and have to give the same sums.
 
 A line a figure: the times through C and through Rust and ours, in nanoseconds an item, each the best of all runs; both
 ratios; and the bound that is wanted of them, or of the times where it begins with a sign. The items are the commits that
-are opened, with a copy of their bytes; lookups of ids; commits with their parents, by a call each (`iterate`) and many in a
-call (`blocks`), and with their first parents (`first`); commits at random positions; the commits of the graphs that are
-checked; queries for a walk, or for whether there is one, by a call each (`yes`) and all in a call (`many`), of 30 random
-pairs and of 1,000 near ones, whose positions are looked up before; and calls that only answer a number. The status is 1
-where the sums differ.
+are opened, with a copy of their bytes or without (`open_lent`); lookups of ids; commits with their parents, by a call each
+(`iterate`) and many in a call (`blocks`), and with their first parents (`first`); commits at random positions; the commits
+of the graphs that are checked; queries for a walk, or for whether there is one, by a call each (`yes`) and all in a call
+(`many`), of 30 random pairs and of 1,000 near ones, whose positions are looked up before; and calls that only answer a
+number. The status is 1 where the sums differ.
 """
 
 import os
@@ -37,7 +37,7 @@ CALLS = 100_000_000
 """How many calls each program makes that only answer a number."""
 ITEMS = {"calls": CALLS, "any": FEW, "newest": PAIRS["newest"]}
 """How many items the figures have that are not of each commit."""
-OURS = {"blocks": "iterate", "any-many": "any-yes", "newest-many": "newest-yes"}
+OURS = {"blocks": "iterate", "any-many": "any-yes", "newest-many": "newest-yes", "open_lent": "open"}
 """The figure of our program that another is compared with, where it has another name."""
 ALIGNED = "-mbranches-within-32B-boundaries"
 """How both programs are assembled. Some processors take a jump across 32 bytes slowly, so that where a loop lies by chance would
