@@ -10,6 +10,14 @@ returns-clause-layer c =
     let opened = rw (same, c.new.ensures.bytes) at c.new-2.ensures.layer in
     (c.in_ok-file.file, opened, search rules)
 
+pub returns-in_err-push-clause-refused : goal.returns-in_err-push-clause-refused
+returns-in_err-push-clause-refused c =
+    let handed = err_from_is_err_and c.from_residual-in_err-push.result c.from_residual-in_err-push.ensures.1 in
+    let layer = c.in_ok-file.file in
+    let same : c.new-2.result ≡ Ok layer = search rules in
+    let opened : IsLayer c.args.bytes.items [] layer = rw (same, c.new.ensures.bytes) at c.new-2.ensures.layer in
+    rw (handed.1, handed.2) (inr (layer, opened, tt))
+
 pub returns-in_err-new-clause-refused : goal.returns-in_err-new-clause-refused
 returns-in_err-new-clause-refused c =
     let handed = err_from_is_err_and c.from_residual-in_err-new.result c.from_residual-in_err-new.ensures.1 in
