@@ -201,13 +201,13 @@ typedef struct cg_error { uint32_t code; uint64_t layer; } cg_error;
  * of it does. Whoever fears a change reads the file instead. */
 cg_error cg_open(const cg_file *files, size_t count, cg_graph *out);
 
-/* Opens the graph as cg_open does, and answers as it does, but keeps the bytes that it is lent, and copies none. The paths are copied.
- * The bytes have to stay where they are, unchanged, until cg_close has returned, or a cg_check or cg_check_within that refuses the
- * graph: the graph that these hand out has them too. Where this call refuses them, none is kept.
+/* Opens the graph as cg_open does, and answers as it does, but copies none of the bytes that it is lent. The paths are copied. The bytes
+ * have to stay where they are, unchanged, as long as the graph is open: until cg_close has returned, or a cg_check or cg_check_within
+ * that refuses it. A graph that these hand out has the same bytes. Where this call opens none, it keeps none.
  *
  * Every promise is about bytes that do not change. If another process changes a mapped file after the call, no promise holds any
- * more: a call may read outside the graph's memory. If the file gets shorter, a call may end the program by SIGBUS. So lend only
- * what nobody writes, or a private copy. Git never changes a commit-graph file in place: it writes a new file and renames it. */
+ * more: a call may read outside the graph's memory. If the file gets shorter, a call may end the program by SIGBUS. So lend what
+ * nobody writes, or a copy of your own. Git never changes a commit-graph file in place: it writes a new file and renames it. */
 cg_error cg_open_lent(const cg_file *files, size_t count, cg_graph *out);
 
 /* What cg_open_known is to open. */
@@ -384,7 +384,10 @@ typedef struct cg_commit { uint64_t time; uint32_t generation; } cg_commit;
 /* Writes what the record at a position says; false, and nothing, where there is none, and for CG_CLOSED. */
 bool cg_commit_at(cg_graph graph, uint32_t pos, cg_commit *out);
 
-/* The same for the positions from `first` on, as many as there is room for. Answers how many commits there are from there on,
+/* The generation number of the commit at a position, and nothing else of it is read; 0 where there is none, and for CG_CLOSED. */
+uint32_t cg_generation_at(cg_graph graph, uint32_t pos);
+
+/* What the records say from the position `first` on, as many as there is room for. Answers how many commits there are from there on,
  * 0 where `first` is none and for CG_CLOSED: min(answer, len) of them were written. */
 uint32_t cg_commits(cg_graph graph, uint32_t first, cg_commit *out, size_t len);
 

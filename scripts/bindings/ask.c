@@ -99,7 +99,8 @@ static int find(cg_graph graph, const char *hex) {
     uint8_t id[32];
     cg_commit commit;
     uint32_t pos = cg_lookup(graph, id, bytes_of(hex, id));
-    if (!cg_commit_at(graph, pos, &commit)) { puts("none"); return 1; }
+    if (!cg_commit_at(graph, pos, &commit)) { puts("none"); return cg_generation_at(graph, pos) ? 9 : 1; }
+    if (cg_generation_at(graph, pos) != commit.generation) return 9;
     printf("position %" PRIu32 " generation %" PRIu32 " time %" PRIu64 "\n", pos, commit.generation, commit.time);
     return 0;
 }
@@ -567,7 +568,8 @@ static bool closed_answers(void) {
     if (none.opened || verdict.called) return false;
     verdict.called = 7;
     bool good = cg_num_commits(CG_CLOSED) == 0 && cg_id_len(CG_CLOSED) == 0 && cg_lookup(CG_CLOSED, id, 20) == CG_NOWHERE
-        && cg_id_at(CG_CLOSED, 0, id, 20) == 0 && cg_tree_at(CG_CLOSED, 0, id, 20) == 0 && !cg_commit_at(CG_CLOSED, 0, &commit)
+        && cg_id_at(CG_CLOSED, 0, id, 20) == 0 && cg_tree_at(CG_CLOSED, 0, id, 20) == 0
+        && !cg_commit_at(CG_CLOSED, 0, &commit) && cg_generation_at(CG_CLOSED, 0) == 0
         && !cg_lend_id(CG_CLOSED, 0, &lent) && !cg_lend_tree(CG_CLOSED, 0, &lent) && lent.len == 0
         && cg_commits(CG_CLOSED, 0, &commit, 1) == 0 && cg_parents(CG_CLOSED, 0, out, 1).code == CG_CLOSED_GRAPH
         && cg_first_parents(CG_CLOSED, 0, out, 1).code == CG_CLOSED_GRAPH && cg_first_parent(CG_CLOSED, 0).code == CG_CLOSED_GRAPH

@@ -64,6 +64,7 @@ static void tell_commits(cg_graph graph, FILE *file, uint32_t count) {
         times[pos] = commits[pos].time;
         numbers[pos] = commits[pos].generation;
         agree(cg_commit_at(graph, pos, &one) && one.time == times[pos] && one.generation == numbers[pos]);
+        agree(cg_generation_at(graph, pos) == numbers[pos]);
         agree(cg_id_at(graph, pos, ids + (size_t)pos * LEN, LEN) == LEN);
         agree(cg_tree_at(graph, pos, trees + (size_t)pos * LEN, LEN) == LEN);
         cg_lent lent = CG_NOT_LENT;

@@ -58,7 +58,8 @@ impl ParentBlock {
     pub fn iter(&self) -> impl ExactSizeIterator<Item = Result<&[Position], ParentError>> + FusedIterator {
         let mut rest = &self.parents[..];
         self.told().iter().map(move |answer| {
-            let (parents, later) = rest.split_at(answer.count as usize);
+            // SAFETY: those of all these commits stand there, one commit's behind another's.
+            let (parents, later) = unsafe { rest.split_at_unchecked(answer.count as usize) };
             rest = later;
             match answer.code {
                 codes::OK => Ok(parents),

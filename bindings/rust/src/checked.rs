@@ -177,9 +177,9 @@ impl Checked {
     /// Room for a walk from one commit to another, which has no more commits where their generation numbers are below the
     /// greatest, since these fall along walks. Where there is more, the walk is sought twice.
     fn longest_walk(&self, from: Position, to: Position) -> usize {
-        let commits = self.graph.num_commits();
-        let number = |pos: Position| if pos.0 < commits { self.graph.commit_at(pos).generation() } else { 0 };
-        (number(from).saturating_sub(number(to)) as usize + 1).clamp(64, 64.max(commits as usize))
+        // SAFETY: `raw` is open.
+        let number = |pos: Position| unsafe { sys::cg_generation_at(self.graph.raw, pos.0) };
+        (number(from).saturating_sub(number(to)) as usize + 1).clamp(64, 64.max(self.graph.num_commits() as usize))
     }
 
     /// Whether a commit is an ancestor of another, which then leads to it along parents. A commit is its own ancestor. The order

@@ -156,7 +156,8 @@ impl<'g> Commit<'g> {
     /// Its generation number.
     #[inline]
     pub fn generation(&self) -> u32 {
-        self.record().generation
+        // SAFETY: `raw` is open.
+        unsafe { sys::cg_generation_at(self.graph.raw, self.pos.0) }
     }
 
     /// When it was made: seconds since 1970-01-01 00:00:00 UTC.

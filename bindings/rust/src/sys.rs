@@ -318,6 +318,7 @@ extern "C" {
     pub fn cg_lend_id(graph: Graph, pos: u32, out: *mut Lent) -> bool;
     pub fn cg_lend_tree(graph: Graph, pos: u32, out: *mut Lent) -> bool;
     pub fn cg_commit_at(graph: Graph, pos: u32, out: *mut Commit) -> bool;
+    pub fn cg_generation_at(graph: Graph, pos: u32) -> u32;
     pub fn cg_commits(graph: Graph, first: u32, out: *mut Commit, len: usize) -> u32;
     pub fn cg_parents(graph: Graph, pos: u32, out: *mut u32, len: usize) -> ParentCount;
     pub fn cg_first_parents(graph: Graph, pos: u32, out: *mut u32, len: usize) -> ParentCount;

@@ -36,5 +36,6 @@ pub use open::{CgError, CgFile, cg_check, cg_close, cg_open, cg_open_checked, cg
 pub use opened::Opened;
 pub use paths::{CgPathError, cg_open_known};
 pub use read::{
-    CgCommit, cg_commit_at, cg_id_at, cg_id_len, cg_lookup, cg_num_commits, cg_tree_at,
+    CgCommit, cg_commit_at, cg_generation_at, cg_id_at, cg_id_len, cg_lookup, cg_num_commits,
+    cg_tree_at,
 };

@@ -220,6 +220,23 @@ pub fn cg_commit_at(graph: CgGraph, pos: u32, out: &mut CgCommit) -> bool
     true
 }
 
+/// The generation number of the commit at a position, and 0 where there is none.
+pub fn cg_generation_at(graph: CgGraph, pos: u32) -> u32
+    ensures number { IfSome (layers_of graph.address.held) (λ layers.
+        pos < total layers → HasRecord (Some layers) pos (λ r. result ≡ r.generation)) }
+    ensures none { IfSome (layers_of graph.address.held) (λ layers.
+        total layers ≤ pos → result ≡ 0) }
+    ensures closed { IfNone (layers_of graph.address.held) (result ≡ 0) }
+{
+    let Some(graph) = graph.graph() else {
+        return 0;
+    };
+    if pos >= graph.num_commits() {
+        return 0;
+    }
+    graph.commit_at(Position(pos)).generation()
+}
+
 /// What is told of a commit.
 pub fn told(commit: Commit<'_>) -> CgCommit
     ensures { result ≡ told_commit (layer_and_position commit.entry) }
