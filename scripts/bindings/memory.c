@@ -340,6 +340,7 @@ static outcome reading(void) {
     cg_bytes bytes = CG_NO_BYTES;
     if (cg_write(graph, &one, 1, &bytes).code != CG_WRITE_NO_IDS || bytes.kept) return WRONG;
     bool good = cg_lookup(graph, id, len) == from && cg_tree_at(graph, from, id, len) == len && cg_commit_at(graph, from, &commit)
+        && cg_generation_at(graph, from) == commit.generation
         && cg_commits(graph, from, &commit, 1) == cg_num_commits(graph) - from && cg_parents(graph, from, out, 4).code == CG_OK
         && cg_first_parents(graph, from, out, 4).code == CG_OK && cg_first_parent(graph, from).code == CG_OK && cg_matches(graph, from, id, len).code == CG_OBJECT_OTHER_CONTENTS
         && cg_parents_from(graph, 0, answers, 4, out, 8).commits > 0 && cg_chain_line(id, len, 0).found

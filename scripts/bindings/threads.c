@@ -95,7 +95,7 @@ static uint64_t sum(void) {
         all = all * 31 + block.length + out[0] + cg_is_ancestor(graph, pos, count - 1).found;
         all = all * 31 + cg_ancestor_walk(graph, count - 1, pos, out, ROOM).length;
         all = all * 31 + cg_merge_bases(graph, pos, &pos, 1, out, ROOM).length;
-        all = all * 31 + cg_parents(graph, pos, out, ROOM).count + cg_first_parents(graph, pos, out, 1).count + cg_first_parent(graph, pos).position + cg_matches(graph, pos, id, len).code + cg_commit_at(graph, pos, commits) + commits[0].time;
+        all = all * 31 + cg_parents(graph, pos, out, ROOM).count + cg_first_parents(graph, pos, out, 1).count + cg_first_parent(graph, pos).position + cg_matches(graph, pos, id, len).code + cg_commit_at(graph, pos, commits) + commits[0].time + cg_generation_at(graph, pos);
         all = all * 31 + cg_tree_at(graph, pos, id, len) + id[0] + cg_chain_line(id, len, 0).next;
         cg_lent lent = CG_NOT_LENT;
         if (cg_lend_id(graph, pos, &lent)) all = all * 31 + lent.bytes[len - 1];

@@ -58,9 +58,11 @@ impl ParentBlock {
     pub fn iter(&self) -> impl ExactSizeIterator<Item = Result<&[Position], ParentError>> + FusedIterator {
         let mut rest = &self.parents[..];
         self.told().iter().map(move |answer| {
-            // SAFETY: those of all these commits stand there, one commit's behind another's.
-            let (parents, later) = unsafe { rest.split_at_unchecked(answer.count as usize) };
-            rest = later;
+            let count = answer.count as usize;
+            // SAFETY: the parents of all these commits stand there, one commit's behind another's.
+            let parents = unsafe { rest.get_unchecked(..count) };
+            // SAFETY: as above.
+            rest = unsafe { rest.get_unchecked(count..) };
             match answer.code {
                 codes::OK => Ok(parents),
                 code => Err(ParentError::of_fault(code)),
