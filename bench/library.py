@@ -17,6 +17,7 @@ of the graphs that are checked; queries for a walk, or for whether there is one,
 number. The status is 1 where the sums differ.
 """
 
+import functools
 import os
 import subprocess
 import sys
@@ -29,7 +30,7 @@ from topics import PAIRS
 
 SOURCES = common.sources("library")
 LIBRARY = os.path.join(common.TOP, "crates", "commitgraph_c", "out")
-ROUNDS = 20
+ROUNDS = 40
 """How often each program is run. They take turns, so that all find a time when their neighbours leave the memory to them."""
 FEW = 30
 """Of the pairs at random so many are asked about."""
@@ -57,15 +58,25 @@ def main(folder=None):
         pairs = few_pairs(folder, *ancestor.pairs_files(folder, present))
         inputs = [present, absent, positions, *pairs, *layers]
         ours, queries = lookup.our_program(folder), ancestor.our_program(folder)
-        programs = [c_program(folder), rust_program(folder)]
+        runs = [functools.partial(figures, program, inputs) for program in (c_program(folder), rust_program(folder))]
+        runs.append(functools.partial(own_figures, ours, queries, [present, absent, positions, once, twice], pairs, layers))
         common.print_load()
-        rounds = []
-        for _ in range(ROUNDS):
-            own = figures(ours, [present, absent, positions, once, twice, *layers])
-            own.update(figures(queries, [*pairs, layers[0]], "layer-"))
-            own.update(figures(queries, [*pairs, *layers[1:]], "chain-"))
-            rounds.append([*(figures(program, inputs) for program in programs), own])
-        return report(rounds)
+        return report([in_turn(runs, number) for number in range(ROUNDS)])
+
+
+def own_figures(ours, queries, files, pairs, layers):
+    """What our two programs print."""
+    own = figures(ours, [*files, *layers])
+    own.update(figures(queries, [*pairs, layers[0]], "layer-"))
+    own.update(figures(queries, [*pairs, *layers[1:]], "chain-"))
+    return own
+
+
+def in_turn(runs, first):
+    """What the runs answer, of which another one comes first each time: each gets the pages of memory that the one before gave back,
+    and where they lie decides on a tenth of a lookup."""
+    answers = {place: runs[place]() for place in sorted(range(len(runs)), key=lambda place: (place - first) % len(runs))}
+    return [answers[place] for place in range(len(runs))]
 
 
 def few_pairs(folder, pairs, near):
