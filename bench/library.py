@@ -73,9 +73,12 @@ def own_figures(ours, queries, files, pairs, layers):
 
 
 def in_turn(runs, first):
-    """What the runs answer, of which another one comes first each time: each gets the pages of memory that the one before gave back,
-    and where they lie decides on a tenth of a lookup."""
-    answers = {place: runs[place]() for place in sorted(range(len(runs)), key=lambda place: (place - first) % len(runs))}
+    """What the runs answer, begun with another one each time. A run seems to get the memory that the one before gave back, and where
+    that lies decides on a tenth of a lookup."""
+    answers = {}
+    for number in range(first, first + len(runs)):
+        place = number % len(runs)
+        answers[place] = runs[place]()
     return [answers[place] for place in range(len(runs))]
 
 

@@ -384,7 +384,8 @@ typedef struct cg_commit { uint64_t time; uint32_t generation; } cg_commit;
 /* Writes what the record at a position says; false, and nothing, where there is none, and for CG_CLOSED. */
 bool cg_commit_at(cg_graph graph, uint32_t pos, cg_commit *out);
 
-/* The generation number of the commit at a position, and nothing else of it is read; 0 where there is none, and for CG_CLOSED. */
+/* The generation number of the commit at a position: nothing else of it is read. It is 0 where there is no such position, and for
+ * CG_CLOSED; in a checked graph no commit has 0. */
 uint32_t cg_generation_at(cg_graph graph, uint32_t pos);
 
 /* What the records say from the position `first` on, as many as there is room for. Answers how many commits there are from there on,
