@@ -21,7 +21,7 @@ use crate::known::{CgKnown, KnownFiles, find, is_known_file, is_read, read_bytes
 use gix_commitgraph::opening::path::{chain_path, info_chain_path, info_file_path, layer_path};
 use gix_commitgraph::opening::{OpenError, open_chain_dir_in, open_file_in};
 use gix_commitgraph::{FileError, Graph};
-use graph_folder::lines::Lines;
+use graph_folder::chain::Lines;
 use graph_format::layout::layout_of;
 use std::alloc::{AllocError, Global};
 

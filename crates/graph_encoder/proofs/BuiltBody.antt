@@ -1,7 +1,7 @@
 -- a plan's file that is put together part by part
 use Rattle.std.proofs.Common.{◌≡◌, ℕ, ◌+◌, List, [], ◌++◌, length, refl, sym, ap, ◌∙◌, arith, append_assoc, append-nil}
 use Rattle.std.specs.Prelude.{unwrap_or}
-use Rattle.graph_encoder.specs.declared.plan.LayerPlan.{LayerPlan}
+use Rattle.graph_encoder.specs.declared.plan.FilePlan.{FilePlan}
 use Rattle.graph_encoder.specs.Chunks.{table_from, table_len, chunk_bytes, with_chunks}
 use Rattle.graph_encoder.specs.DateOffsets.{offsets_of, large_offsets, offset_words}
 use Rattle.graph_encoder.specs.ExtraEdges.{all_extra_words}
@@ -14,11 +14,11 @@ use Rattle.graph_encoder.proofs.PlannedFile.{header_in}
 use Rattle.graph_encoder.proofs.PossibleChunks.{bytes_of_those, table_of_those, unless_empty-bytes}
 
 -- the offsets of a plan, none of them where it has no dates
-abbrev pub offsets_in : LayerPlan → List ℕ
+abbrev pub offsets_in : FilePlan → List ℕ
 offsets_in plan = unwrap_or (offsets_of plan) []
 
 -- the bytes of all chunks
-abbrev pub parts : LayerPlan → List ℕ
+abbrev pub parts : FilePlan → List ℕ
 parts plan =
     words_bytes (exact_fan (ids_of plan.commits.items))
     ++ (ids_bytes (ids_of plan.commits.items)
@@ -28,7 +28,7 @@ parts plan =
     ++ (words_bytes (all_extra_words plan.commits.items)
     ++ (filters_bytes plan.filters ++ ids_bytes plan.bases.items))))))
 
-bytes-planned : (plan : LayerPlan) → chunk_bytes (planned_chunks plan) ≡ parts plan
+bytes-planned : (plan : FilePlan) → chunk_bytes (planned_chunks plan) ≡ parts plan
 bytes-planned plan =
     bytes_of_those (possible_chunks plan)
     ∙ rw (
@@ -48,7 +48,7 @@ ten-added old a b c d e g i j k l f1 f2 f3 f4 f5 f6 f7 f8 f9 f10 h1 h2 h3 h4 h5 
     rw (h10, h9, h8, h7, h6, h5, h4, h3, h2, h1) (simp append_assoc)
 
 -- the header, the table and the chunks, part by part
-pub body-added : (plan : LayerPlan) (count offset : ℕ) (old f1 f2 f3 f4 f5 f6 f7 f8 f9 f10 : List ℕ)
+pub body-added : (plan : FilePlan) (count offset : ℕ) (old f1 f2 f3 f4 f5 f6 f7 f8 f9 f10 : List ℕ)
     → count ≡ length (planned_chunks plan) → offset ≡ 8 + table_len count
     → f1 ≡ old ++ header plan.kind count (length plan.bases.items) → f2 ≡ f1 ++ table_by_sizes offset (sizes_of plan)
     → f3 ≡ f2 ++ words_bytes (exact_fan (ids_of plan.commits.items)) → f4 ≡ f3 ++ ids_bytes (ids_of plan.commits.items)

@@ -9,7 +9,7 @@ use Rattle.gix_hash_core.specs.Kind.{id_len}
 use Rattle.gix_hash_core.specs.Digest.{digest_of}
 use Rattle.gix_chunk_core.specs.Table.{Chunks}
 use Rattle.graph_format.specs.Format.{record_len, words, least_size, table_of, chunk_of}
-use Rattle.graph_encoder.specs.declared.plan.LayerPlan.{LayerPlan}
+use Rattle.graph_encoder.specs.declared.plan.FilePlan.{FilePlan}
 use Rattle.graph_encoder.specs.declared.plan.PlanCommit.{PlanCommit}
 use Rattle.graph_encoder.specs.ExtraEdges.{no_parent, top_bit, extra_words, all_extra_words, listed_words}
 use Rattle.graph_encoder.specs.Plan.{IsPlan, IsPlannedCommit}
@@ -65,19 +65,19 @@ all_extra_words-small kind (commit ∷ commits) h =
     (all_extra_words-small kind commits (All-others (IsPlannedCommit kind) commit commits h))
 
 -- the parts of a plan's file
-abbrev pub header_in : LayerPlan → List ℕ
+abbrev pub header_in : FilePlan → List ℕ
 header_in plan = header plan.kind (length (planned_chunks plan)) (length plan.bases.items)
 
-abbrev pub digest_in : LayerPlan → List ℕ
+abbrev pub digest_in : FilePlan → List ℕ
 digest_in plan = digest_of plan.kind (planned_body plan)
 
 -- The numbers of bytes of the first three chunks.
-pub record HasSizes (plan : LayerPlan) : Type 0 where
+pub record HasSizes (plan : FilePlan) : Type 0 where
   pub fan : length (words_bytes (exact_fan (ids_of plan.commits.items))) ≡ 1024
   pub ids : length (ids_bytes (ids_of plan.commits.items)) ≡ id_len plan.kind * length plan.commits.items
   pub records : length (records_from 0 plan.commits.items) ≡ record_len plan.kind * length plan.commits.items
 
-pub sizes : (plan : LayerPlan) → IsPlan plan → HasSizes plan
+pub sizes : (plan : FilePlan) → IsPlan plan → HasSizes plan
 sizes plan h =
     let fan : ◌≡◌ {A = ℕ} (length (words_bytes (exact_fan (ids_of plan.commits.items)))) 1024 =
     length-words_bytes (exact_fan (ids_of plan.commits.items))
@@ -101,7 +101,7 @@ nine-small : (a b c d e f g i j n : ℕ) → a + b + c + d + e + f + g + i + j <
     → fold (λ s x. s + x) 0 (a ∷ b ∷ c ∷ d ∷ e ∷ f ∷ g ∷ i ∷ j ∷ []) < n
 nine-small a b c d e f g i j n h = omega (arith, h)
 
-pub sizes-small : (plan : LayerPlan) → IsPlan plan → total_size (sizes_of plan) < 2 ^ 40
+pub sizes-small : (plan : FilePlan) → IsPlan plan → total_size (sizes_of plan) < 2 ^ 40
 sizes-small plan h =
     let known = sizes plan h in
     let few = offsets-small (offsets_of plan) (length plan.commits.items) h.offsets in
@@ -129,10 +129,10 @@ sizes-small plan h =
     ))
 
 -- how many chunks there are
-pub chunks-few : (plan : LayerPlan) → length (planned_chunks plan) ≤ 9
+pub chunks-few : (plan : FilePlan) → length (planned_chunks plan) ≤ 9
 chunks-few plan = few_there (possible_chunks plan)
 
-pub chunks-some : (plan : LayerPlan) → 3 ≤ length (planned_chunks plan)
+pub chunks-some : (plan : FilePlan) → 3 ≤ length (planned_chunks plan)
 chunks-some plan = omega arith
 
 pub id-small : (kind : Kind) → id_len kind ≤ 32
@@ -143,7 +143,7 @@ twenty : (kind : Kind) → 20 ≤ id_len kind
 twenty Sha1 = omega arith
 twenty Sha256 = omega arith
 
-laid : (plan : LayerPlan) → IsPlan plan → AreLaidOut (header_in plan) (digest_in plan) (planned_chunks plan)
+laid : (plan : FilePlan) → IsPlan plan → AreLaidOut (header_in plan) (digest_in plan) (planned_chunks plan)
 laid plan h =
     record {
       named = named_there (possible_chunks plan) refl;
@@ -158,43 +158,43 @@ laid plan h =
     }
 
 -- the file in parts
-planned_file-is : (plan : LayerPlan) → planned_file plan
+planned_file-is : (plan : FilePlan) → planned_file plan
     ≡ laid_file plan.kind (length plan.bases.items) (planned_chunks plan) (digest_in plan)
 unfolding planned_file planned_body
 planned_file-is plan = refl
 
-planned_body-is : (plan : LayerPlan) → planned_body plan ≡ with_chunks (header_in plan) (planned_chunks plan)
+planned_body-is : (plan : FilePlan) → planned_body plan ≡ with_chunks (header_in plan) (planned_chunks plan)
 unfolding planned_body
 planned_body-is plan = refl
 
 -- a chunk of the file is the one that was laid out
-pub chunk_of-planned : (plan : LayerPlan) (id : List ℕ) → IsPlan plan
+pub chunk_of-planned : (plan : FilePlan) (id : List ℕ) → IsPlan plan
     → chunk_of (planned_file plan) id ≡ bytes_there (possible_chunks plan) id
 chunk_of-planned plan id h = ap (λ (bytes : List ℕ). chunk_of bytes id) (planned_file-is plan)
     ∙ chunk_of-laid plan.kind (length plan.bases.items) (planned_chunks plan) (digest_in plan) id (laid plan h)
     ∙ found_there (possible_chunks plan) id refl
 
-pub end-planned : (plan : LayerPlan) → IsPlan plan → (table_of (planned_file plan)).end ≡ length (planned_body plan)
+pub end-planned : (plan : FilePlan) → IsPlan plan → (table_of (planned_file plan)).end ≡ length (planned_body plan)
 end-planned plan h =
     ap (λ (bytes : List ℕ). (table_of bytes).end) (planned_file-is plan)
     ∙ end-laid plan.kind (length plan.bases.items) (planned_chunks plan) (digest_in plan) (laid plan h)
     ∙ ap length (sym (planned_body-is plan))
 
-pub table-planned : (plan : LayerPlan) → IsPlan plan
+pub table-planned : (plan : FilePlan) → IsPlan plan
     → Chunks (planned_file plan) 8 (slice_index (planned_file plan) 6) (table_of (planned_file plan))
 table-planned plan h =
     let P : List ℕ → Type 0 = λ bytes. Chunks bytes 8 (slice_index bytes 6) (table_of bytes) in
     subst P (sym (planned_file-is plan))
     (table-laid plan.kind (length plan.bases.items) (planned_chunks plan) (digest_in plan) (laid plan h))
 
-pub headed-planned : (plan : LayerPlan)
+pub headed-planned : (plan : FilePlan)
     → IsHeaded (planned_file plan) plan.kind (length (planned_chunks plan)) (length plan.bases.items)
 headed-planned plan =
     let P : List ℕ → Type 0 = λ bytes. IsHeaded bytes plan.kind (length (planned_chunks plan)) (length plan.bases.items) in
     subst P (sym (planned_file-is plan)) (headed plan.kind (length plan.bases.items) (planned_chunks plan) (digest_in plan))
 
 -- how many bytes the file has
-length-planned_body : (plan : LayerPlan) → IsPlan plan
+length-planned_body : (plan : FilePlan) → IsPlan plan
     → length (planned_body plan) ≡ 8 + table_len (length (planned_chunks plan)) + length (chunk_bytes (planned_chunks plan))
 length-planned_body plan h =
     ap length (planned_body-is plan)
@@ -202,7 +202,7 @@ length-planned_body plan h =
     ∙ ap (λ (n : ℕ). n + table_len (length (planned_chunks plan)) + length (chunk_bytes (planned_chunks plan)))
     (length-header plan.kind (length (planned_chunks plan)) (length plan.bases.items))
 
-pub planned_file-size : (plan : LayerPlan) → IsPlan plan → least_size ≤ length (planned_file plan)
+pub planned_file-size : (plan : FilePlan) → IsPlan plan → least_size ≤ length (planned_file plan)
 unfolding planned_file
 planned_file-size plan h =
     omega (

@@ -12,7 +12,7 @@ use Rattle.graph_format.specs.Format.{Record, record_of, record_len, pieces, wor
 use Rattle.graph_format.specs.Format.{ids_id}
 use Rattle.graph_format.specs.Format.{records_id, edges_id, bases_id}
 use Rattle.graph_format.specs.Layer.{Layer, IsLayer}
-use Rattle.graph_encoder.specs.declared.plan.LayerPlan.{LayerPlan}
+use Rattle.graph_encoder.specs.declared.plan.FilePlan.{FilePlan}
 use Rattle.graph_encoder.specs.declared.plan.PlanCommit.{PlanCommit}
 use Rattle.graph_encoder.specs.ExtraEdges.{all_extra_words}
 use Rattle.graph_encoder.specs.Plan.{IsPlan}
@@ -29,7 +29,7 @@ use Rattle.graph_encoder.proofs.PlannedFile.{digest_in, sizes, ids_of-sized, all
 use Rattle.graph_encoder.proofs.PlannedFile.{table-planned, headed-planned, planned_file-size}
 
 -- the layer that the file is of
-abbrev pub planned_layer : LayerPlan → List ℕ → Layer
+abbrev pub planned_layer : FilePlan → List ℕ → Layer
 planned_layer plan path =
     record {
       kind = plan.kind;
@@ -44,7 +44,7 @@ planned_layer plan path =
     }
 
 -- the fan is there, and counts the ids
-fan-planned : (plan : LayerPlan) (path : List ℕ) → IsPlan plan → IsSomeAnd (chunk_of (planned_file plan) fan_id) (λ chunk.
+fan-planned : (plan : FilePlan) (path : List ℕ) → IsPlan plan → IsSomeAnd (chunk_of (planned_file plan) fan_id) (λ chunk.
     (length chunk ≡ 1024) × ((planned_layer plan path).fan ≡ words chunk))
 fan-planned plan path h =
     let P : Option (List ℕ) → Type 0 = λ o. IsSomeAnd o (λ chunk.
@@ -57,12 +57,12 @@ fan-planned plan path h =
     )
 
 -- it counts all commits
-commits_of-planned : (plan : LayerPlan) → All (λ id. slice_index id 0 < 256) (ids_of plan.commits.items)
+commits_of-planned : (plan : FilePlan) → All (λ id. slice_index id 0 < 256) (ids_of plan.commits.items)
     → commits_of (exact_fan (ids_of plan.commits.items)) ≡ length plan.commits.items
 commits_of-planned plan h = exact_fan-last (ids_of plan.commits.items) h ∙ length-map plan.commits.items (λ (c : PlanCommit).
     c.id)
 
-ids-planned : (plan : LayerPlan) (path : List ℕ) → IsPlan plan → All (λ id. slice_index id 0 < 256) (ids_of plan.commits.items)
+ids-planned : (plan : FilePlan) (path : List ℕ) → IsPlan plan → All (λ id. slice_index id 0 < 256) (ids_of plan.commits.items)
     → IsSomeAnd (chunk_of (planned_file plan) ids_id) (λ chunk.
     (length chunk ≡ id_len plan.kind * commits_of (planned_layer plan path).fan)
     × ((planned_layer plan path).ids ≡ pieces (id_len plan.kind) chunk))
@@ -75,7 +75,7 @@ ids-planned plan path h e =
       sym (ids_bytes-read plan.kind (ids_of plan.commits.items) (ids_of-sized plan.kind plan.commits.items h.commits)),
     )
 
-records-planned : (plan : LayerPlan) (path : List ℕ) → IsPlan plan
+records-planned : (plan : FilePlan) (path : List ℕ) → IsPlan plan
     → All (λ id. slice_index id 0 < 256) (ids_of plan.commits.items)
     → IsSomeAnd (chunk_of (planned_file plan) records_id) (λ chunk.
     (length chunk ≡ record_len plan.kind * commits_of (planned_layer plan path).fan)
@@ -96,26 +96,26 @@ bases-right : (kind : Kind) (bases : List (List ℕ)) → All (λ id. length id 
 bases-right kind [] h = (refl, refl)
 bases-right kind (base ∷ bases) h = (length-ids_bytes kind (base ∷ bases) h, sym (ids_bytes-read kind (base ∷ bases) h))
 
-named-edges : (plan : LayerPlan) → IsPlan plan
+named-edges : (plan : FilePlan) → IsPlan plan
     → chunk_of (planned_file plan) edges_id ≡ edges_bytes (all_extra_words plan.commits.items)
 named-edges plan h = chunk_of-planned plan edges_id h ∙ edges-unless (all_extra_words plan.commits.items)
 
-named-bases : (plan : LayerPlan) → IsPlan plan → chunk_of (planned_file plan) bases_id ≡ bases_bytes plan.bases.items
+named-bases : (plan : FilePlan) → IsPlan plan → chunk_of (planned_file plan) bases_id ≡ bases_bytes plan.bases.items
 named-bases plan h = chunk_of-planned plan bases_id h ∙ bases-unless plan.kind plan.bases.items h.bases
 
 -- the filters, if there are any
-index-planned : (plan : LayerPlan) (path : List ℕ) → IsPlan plan
+index-planned : (plan : FilePlan) (path : List ℕ) → IsPlan plan
     → index_in (planned_layer plan path) ≡ option_map filter_index plan.filters
 unfolding planned_file
 index-planned plan path h = chunk_of-planned plan (codes "BIDX") h
 
-data-planned : (plan : LayerPlan) (path : List ℕ) → IsPlan plan
+data-planned : (plan : FilePlan) (path : List ℕ) → IsPlan plan
     → data_in (planned_layer plan path) ≡ option_map filter_data plan.filters
 unfolding planned_file
 data-planned plan path h = chunk_of-planned plan (codes "BDAT") h
 
 -- the offsets of dates, if there are any
-dates-planned : (plan : LayerPlan) (path : List ℕ) → IsPlan plan
+dates-planned : (plan : FilePlan) (path : List ℕ) → IsPlan plan
     → MatchOption (offsets_of plan) (HasDates (planned_layer plan path) → ⊥) (λ offsets.
     HasDates (planned_layer plan path)
     × (dates_in (planned_layer plan path) ≡ map (λ pair. pair.0 + pair.1) (zip (times_in (planned_layer plan path)) offsets)))
@@ -126,7 +126,7 @@ dates-planned plan path h =
     (length-map (planned_records 0 plan.commits.items) (λ (r : Record). r.time)
     ∙ length-planned_records 0 plan.commits.items) h.few_commits
 
-bases-planned : (plan : LayerPlan) → IsPlan plan
+bases-planned : (plan : FilePlan) → IsPlan plan
     → MatchOption (chunk_of (planned_file plan) bases_id) ((slice_index (planned_file plan) 7 ≡ 0) × (plan.bases.items ≡ []))
     (λ chunk.
     (length chunk ≡ id_len plan.kind * slice_index (planned_file plan) 7)
@@ -139,7 +139,7 @@ bases-planned plan h =
     subst R (sym (headed-planned plan).bases)
     (subst Q (sym (named-bases plan h)) (bases-right plan.kind plan.bases.items h.bases))
 
-body-planned : (plan : LayerPlan) → IsPlan plan
+body-planned : (plan : FilePlan) → IsPlan plan
     → (planned_body plan ≡ take (table_of (planned_file plan)).end (planned_file plan))
     × (digest_in plan ≡ drop (table_of (planned_file plan)).end (planned_file plan))
 unfolding planned_file
@@ -148,7 +148,7 @@ body-planned plan h = (
   sym (drop_at (planned_body plan) (digest_in plan) _ (sym (end-planned plan h))),
 )
 
-is-planned : (plan : LayerPlan) (path : List ℕ) → IsPlan plan → All (λ id. slice_index id 0 < 256) (ids_of plan.commits.items)
+is-planned : (plan : FilePlan) (path : List ℕ) → IsPlan plan → All (λ id. slice_index id 0 < 256) (ids_of plan.commits.items)
     → IsLayer (planned_file plan) path (planned_layer plan path)
 is-planned plan path h e =
     let starts = headed-planned plan in
@@ -178,7 +178,7 @@ is-planned plan path h e =
       origin = refl;
     }
 
-says-planned : (plan : LayerPlan) (path : List ℕ) → IsPlan plan → SaysPlan plan (planned_layer plan path)
+says-planned : (plan : FilePlan) (path : List ℕ) → IsPlan plan → SaysPlan plan (planned_layer plan path)
 says-planned plan path h =
     record {
       kind = refl;
@@ -197,12 +197,12 @@ says-planned plan path h =
     }
 
 -- The law.
-pub planned_file-read : (plan : LayerPlan) (path : List ℕ) → IsPlan plan
+pub planned_file-read : (plan : FilePlan) (path : List ℕ) → IsPlan plan
     → All (λ id. slice_index id 0 < 256) (ids_of plan.commits.items) → IsFileOf plan (planned_file plan) path
 planned_file-read plan path h e = (planned_layer plan path, is-planned plan path h e, says-planned plan path h)
 
 -- the trailer after the body
-pub planned_file-added : (plan : LayerPlan) (start body now checksum message : List ℕ) → body ≡ start ++ planned_body plan
+pub planned_file-added : (plan : FilePlan) (start body now checksum message : List ℕ) → body ≡ start ++ planned_body plan
     → start ≡ [] → now ≡ body ++ checksum → checksum ≡ digest_of plan.kind message → message ≡ body → now ≡ planned_file plan
 unfolding planned_file
 planned_file-added plan start body now checksum message h e k d m =

@@ -6,7 +6,7 @@ use Rattle.std.proofs.lemmas.List.{flat_map_more, take_more}
 use Rattle.std.proofs.lemmas.Option.{get_or_from_slice_get, slice_get_within}
 use Rattle.graph_encoder.specs.Plan.{IsPlan, IsPlannedCommit}
 use Rattle.graph_encoder.specs.Rows.{IsRowOf, IsRowAt}
-use Rattle.graph_encoder.specs.declared.plan.LayerPlan.{LayerPlan}
+use Rattle.graph_encoder.specs.declared.plan.FilePlan.{FilePlan}
 use Rattle.graph_encoder.specs.declared.plan.PlanCommit.{PlanCommit}
 use Rattle.graph_encoder.specs.declared.row.PlanRow.{PlanRow}
 
@@ -22,7 +22,7 @@ pub record IsRowHere (commits : List PlanCommit) (i : ℕ) (row : PlanRow) (comm
   pub is : commit ≡ get_or commits i commit
   pub says : IsRowOf commit row
 
-pub row-here : (plan : LayerPlan) (i : ℕ) (row : PlanRow) → i < length plan.commits.items → IsRowAt plan i row
+pub row-here : (plan : FilePlan) (i : ℕ) (row : PlanRow) → i < length plan.commits.items → IsRowAt plan i row
     → (commit : PlanCommit) × IsRowHere plan.commits.items i row commit
 row-here plan i row lt at =
     let found = element-at plan.commits.items i lt in (
@@ -46,7 +46,7 @@ flat-more spell old before now commits i commit lt is so_far added =
     ∙ ap (λ (cs : List PlanCommit). old ++ flat_map spell cs) (sym (take_more commits i commit lt))
 
 -- a commit that stands in a plan fits in a record
-pub planned-here : (plan : LayerPlan) (i : ℕ) (row : PlanRow) (commit : PlanCommit) → IsPlan plan
+pub planned-here : (plan : FilePlan) (i : ℕ) (row : PlanRow) (commit : PlanCommit) → IsPlan plan
     → IsRowHere plan.commits.items i row commit → IsPlannedCommit plan.kind commit
 planned-here plan i row commit is here =
     subst (IsPlannedCommit plan.kind) (sym here.is)

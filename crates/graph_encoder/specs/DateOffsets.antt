@@ -4,10 +4,10 @@ use Rattle.std.specs.Prelude.{ℕ, ◌+◌, ◌^◌, Bool, List, length, map, ta
 use Rattle.std.specs.Prelude.{Option, option_map}
 use Rattle.std.specs.List.{range_with_len}
 use Rattle.graph_encoder.specs.ExtraEdges.{top_bit}
-use Rattle.graph_encoder.specs.declared.plan.LayerPlan.{LayerPlan}
+use Rattle.graph_encoder.specs.declared.plan.FilePlan.{FilePlan}
 
 -- the offsets of a plan's dates, if it has dates
-abbrev pub offsets_of : LayerPlan → Option (List ℕ)
+abbrev pub offsets_of : FilePlan → Option (List ℕ)
 offsets_of plan = option_map (λ offsets. offsets.items) plan.date_offsets
 
 -- an offset has no room beside a word's top bit

@@ -5,7 +5,7 @@ use Rattle.gix_hash_core.specs.Kind.{id_len}
 use Rattle.graph_encoder.specs.DateOffsets.{offsets_of}
 use Rattle.graph_encoder.specs.ExtraEdges.{no_parent, top_bit, all_extra_words}
 use Rattle.graph_encoder.specs.declared.filters.PlanFilters.{PlanFilters}
-use Rattle.graph_encoder.specs.declared.plan.LayerPlan.{LayerPlan}
+use Rattle.graph_encoder.specs.declared.plan.FilePlan.{FilePlan}
 use Rattle.graph_encoder.specs.declared.plan.PlanCommit.{PlanCommit}
 
 -- What a record can hold for a commit ("Commit Data"): 30 bits of the generation and 34 of the time.
@@ -28,7 +28,7 @@ pub record AreFilters (commits : ℕ) (filters : PlanFilters) : Type 0 where
 
 -- What one file can hold: the header counts the bases in one byte ("HEADER"), and a field names an extra word in 31 bits
 -- ("Extra Edge List").
-pub record IsPlan (plan : LayerPlan) : Type 0 where
+pub record IsPlan (plan : FilePlan) : Type 0 where
   pub few_bases : length plan.bases.items ≤ 255
   pub bases : All (λ id. length id ≡ id_len plan.kind) plan.bases.items
   pub few_commits : length plan.commits.items < 2147483648

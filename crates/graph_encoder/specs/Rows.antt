@@ -1,7 +1,7 @@
 -- The commits of a plan, one by one. (gitformat-commit-graph, "Commit Data".)
 use Rattle.std.specs.Prelude.{◌≡◌, ℕ, Some, slice_get}
 use Rattle.gix_hash_core.specs.Oid.{oid_bytes}
-use Rattle.graph_encoder.specs.declared.plan.LayerPlan.{LayerPlan}
+use Rattle.graph_encoder.specs.declared.plan.FilePlan.{FilePlan}
 use Rattle.graph_encoder.specs.declared.plan.PlanCommit.{PlanCommit}
 use Rattle.graph_encoder.specs.declared.row.PlanRow.{PlanRow}
 
@@ -14,5 +14,5 @@ pub record IsRowOf (commit : PlanCommit) (row : PlanRow) : Type 0 where
   pub time : row.time ≡ commit.time
 
 -- The row says what the plan's commit at this place says.
-abbrev pub IsRowAt : LayerPlan → ℕ → PlanRow → Type 0
+abbrev pub IsRowAt : FilePlan → ℕ → PlanRow → Type 0
 IsRowAt plan p row = (commit : PlanCommit) → slice_get plan.commits.items p ≡ Some commit → IsRowOf commit row

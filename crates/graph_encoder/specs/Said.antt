@@ -10,7 +10,7 @@ use Rattle.graph_encoder.specs.ExtraEdges.{top_bit, all_extra_words}
 use Rattle.graph_format.specs.OptionalChunks.{HasDates, times_in, dates_in, index_in, data_in}
 use Rattle.graph_encoder.specs.Written.{ids_of, ids_up_to, filter_index, filter_data}
 use Rattle.graph_encoder.specs.DateOffsets.{offsets_of}
-use Rattle.graph_encoder.specs.declared.plan.LayerPlan.{LayerPlan}
+use Rattle.graph_encoder.specs.declared.plan.FilePlan.{FilePlan}
 use Rattle.graph_encoder.specs.declared.plan.PlanCommit.{PlanCommit}
 
 -- parents at these positions, and no fault
@@ -27,7 +27,7 @@ pub record SaysCommit (edges : Option (List ℕ)) (index : ℕ) (commit : PlanCo
   pub time : r.time ≡ commit.time
 
 -- The layer says what the plan says.
-pub record SaysPlan (plan : LayerPlan) (layer : Layer) : Type 0 where
+pub record SaysPlan (plan : FilePlan) (layer : Layer) : Type 0 where
   pub kind : layer.kind ≡ plan.kind
   pub bases : layer.bases ≡ plan.bases.items
   pub ids : layer.ids ≡ ids_of plan.commits.items
@@ -50,5 +50,5 @@ pub record SaysPlan (plan : LayerPlan) (layer : Layer) : Type 0 where
   pub filters : data_in layer ≡ option_map filter_data plan.filters
 
 -- The bytes are a file of a layer that says what the plan says.
-abbrev pub IsFileOf : LayerPlan → List ℕ → List ℕ → Type 0
+abbrev pub IsFileOf : FilePlan → List ℕ → List ℕ → Type 0
 IsFileOf plan bytes path = (layer : Layer) × IsLayer bytes path layer × SaysPlan plan layer

@@ -4,7 +4,7 @@ use Rattle.std.specs.Prelude.{is_some, count_by, nat_lt, if◌then◌else◌}
 use Rattle.gix_chunk_core.specs.Entry.{end_id}
 use Rattle.graph_encoder.specs.Chunks.{PossibleChunk, long_bytes}
 use Rattle.graph_encoder.specs.Written.{possible_chunks}
-use Rattle.graph_encoder.specs.declared.plan.LayerPlan.{LayerPlan}
+use Rattle.graph_encoder.specs.declared.plan.FilePlan.{FilePlan}
 use Rattle.graph_encoder.specs.declared.sizes.ChunkSize.{ChunkSize}
 
 -- the size of a chunk, if it is there
@@ -12,7 +12,7 @@ abbrev pub size_if_there : PossibleChunk → ChunkSize
 size_if_there chunk = record { id = chunk.id; size = option_map length chunk.bytes }
 
 -- the sizes of all chunks that the file of a plan may have
-abbrev pub sizes_of : LayerPlan → List ChunkSize
+abbrev pub sizes_of : FilePlan → List ChunkSize
 sizes_of plan = map size_if_there (possible_chunks plan)
 
 -- a size, which is missing where there are no bytes

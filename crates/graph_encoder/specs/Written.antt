@@ -11,7 +11,7 @@ use Rattle.graph_encoder.specs.ExtraEdges.{extra_words, all_extra_words, first_f
 use Rattle.graph_encoder.specs.DateOffsets.{offsets_of, large_offsets, offset_words}
 use Rattle.graph_encoder.specs.declared.filters.FilterNumbers.{FilterNumbers}
 use Rattle.graph_encoder.specs.declared.filters.PlanFilters.{PlanFilters}
-use Rattle.graph_encoder.specs.declared.plan.LayerPlan.{LayerPlan}
+use Rattle.graph_encoder.specs.declared.plan.FilePlan.{FilePlan}
 use Rattle.graph_encoder.specs.declared.plan.PlanCommit.{PlanCommit}
 
 -- the header's byte that names a kind
@@ -79,7 +79,7 @@ filter_data filters = words_bytes (numbers_before filters.numbers) ++ filters.by
 
 -- All chunks that the file of a plan may have, in their order. "Generation Data" is there where the plan has dates, both chunks
 -- of filters where it has filters, and the other three where they have bytes.
-abbrev pub possible_chunks : LayerPlan → List PossibleChunk
+abbrev pub possible_chunks : FilePlan → List PossibleChunk
 possible_chunks plan =
     let commits = plan.commits.items in
     record { id = fan_id; bytes = Some (words_bytes (exact_fan (ids_of commits))) }
@@ -94,15 +94,15 @@ possible_chunks plan =
     ∷ []
 
 -- the chunks of the file
-abbrev pub planned_chunks : LayerPlan → List NamedChunk
+abbrev pub planned_chunks : FilePlan → List NamedChunk
 planned_chunks plan = those_there (possible_chunks plan)
 
 -- all but the trailer
-unfoldable pub planned_body : LayerPlan → List ℕ
+unfoldable pub planned_body : FilePlan → List ℕ
 planned_body plan =
     let chunks = planned_chunks plan in
     with_chunks (header plan.kind (length chunks) (length plan.bases.items)) chunks
 
 -- "TRAILER": the digest of all before it
-unfoldable pub planned_file : LayerPlan → List ℕ
+unfoldable pub planned_file : FilePlan → List ℕ
 planned_file plan = planned_body plan ++ digest_of plan.kind (planned_body plan)

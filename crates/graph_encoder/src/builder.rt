@@ -10,7 +10,7 @@ use crate::edges::push_edges;
 use crate::fan::push_fan;
 use crate::filters::push_filters;
 use crate::offsets::{offsets_or_none, push_large_offsets, push_offset_words};
-use crate::plan::LayerPlan;
+use crate::plan::FilePlan;
 use crate::push::{push_commit_ids, push_id, push_ids};
 use crate::records::push_records;
 use crate::sizes::{ChunkSize, chunk_count, chunk_sizes, first_offset, total_size};
@@ -19,7 +19,7 @@ use crate::view::PlanView;
 use gix_hash_core::digest;
 use std::alloc::{AllocError, Global};
 
-/// The file of a plan that [`LayerPlan::is_buildable`]. Its chunks are `OIDF`, `OIDL`, `CDAT`, then
+/// The file of a plan that [`FilePlan::is_buildable`]. Its chunks are `OIDF`, `OIDL`, `CDAT`, then
 /// `GDA2` if the plan has date offsets, then `GDO2` if one of them is 0x80000000 or more, then
 /// `EDGE` if some commit has more than two parents, then `BIDX` and `BDAT` if the plan has filters,
 /// then `BASE` if there is a base. Each begins where the one before ends, the first directly after
@@ -34,7 +34,7 @@ use std::alloc::{AllocError, Global};
 /// # Errors
 ///
 /// `AllocError` where an allocation failed.
-pub fn build(alloc: Global, plan: &LayerPlan) -> Result<Vec<u8>, AllocError>
+pub fn build(alloc: Global, plan: &FilePlan) -> Result<Vec<u8>, AllocError>
     requires { IsPlan plan.now }
     ensures layout { IfOk result (λ bytes. bytes.items ≡ planned_file plan.now) }
     ensures layer { IfOk result (λ bytes. (path : List ℕ) → IsFileOf plan.now bytes.items path) }

@@ -1,6 +1,6 @@
 //! Writes a layer of a graph in Git's commit-graph format.
 //!
-//! A [`LayerPlan`] lists what a file is to hold, and [`build`] makes the file: a layer whose
+//! A [`FilePlan`] lists what a file is to hold, and [`build`] makes the file: a layer whose
 //! decoded values are the plan's. Its corrected dates are the times and offsets of the plan, and
 //! its changed-path filters those of the plan.
 #![tactic(auto)]
@@ -23,6 +23,6 @@ pub use builder::{build, build_view};
 pub use edges::has_few_extra_words;
 pub use filters::{FilterNumbers, PlanFilters};
 pub use law::planned_files_say_their_plans;
-pub use plan::{LayerPlan, PlanCommit, is_buildable};
+pub use plan::{FilePlan, PlanCommit, is_buildable};
 pub use row::PlanRow;
 pub use view::PlanView;

@@ -19,7 +19,7 @@ use std::alloc::{AllocError, Global};
 /// may be anything that the format has room for: ids need not ascend, ids and trees may be null,
 /// parents need not exist, and generation numbers may be wrong.
 #[derive(Debug, Drop)]
-pub struct LayerPlan {
+pub struct FilePlan {
     /// The kind of all ids.
     pub kind: Kind,
     /// The checksums of the files below, the lowest first ("Base Graphs List").
@@ -64,7 +64,7 @@ const COMMITS_LIMIT: usize = 2147483648;
 /// A file has fewer bytes of filters than this.
 const FILTER_BYTES_LIMIT: usize = 0x100000000;
 
-impl LayerPlan {
+impl FilePlan {
     ghost use Rattle.graph_encoder.specs.Plan.{IsPlan};
 
     /// The plan of a layer of this kind on these bases, without commits, dates and filters.
@@ -72,14 +72,14 @@ impl LayerPlan {
     /// # Errors
     ///
     /// `AllocError` where an allocation failed.
-    pub fn new(alloc: Global, kind: Kind, bases: &[ObjectId]) -> Result<LayerPlan, AllocError>
+    pub fn new(alloc: Global, kind: Kind, bases: &[ObjectId]) -> Result<FilePlan, AllocError>
         ensures kind { IfOk result (λ plan. plan.kind ≡ kind) }
         ensures bases { IfOk result (λ plan. plan.bases.items ≡ bases.now) }
         ensures commits { IfOk result (λ plan. length plan.commits.items ≡ 0) }
         ensures dates { IfOk result (λ plan. plan.date_offsets ≡ None) }
         ensures filters { IfOk result (λ plan. plan.filters ≡ None) }
     {
-        Ok(LayerPlan {
+        Ok(FilePlan {
             kind,
             bases: Vec::from_slice(alloc, bases)?,
             commits: Vec::new(alloc),
@@ -102,8 +102,8 @@ impl LayerPlan {
 }
 
 /// A plan is read off itself.
-impl PlanView for LayerPlan {
-    ghost use Rattle.graph_encoder.specs.declared.plan.LayerPlan.{LayerPlan};
+impl PlanView for FilePlan {
+    ghost use Rattle.graph_encoder.specs.declared.plan.FilePlan.{FilePlan};
 
     ghost as_plan = { λ plan. plan };
 
@@ -142,7 +142,7 @@ impl PlanView for LayerPlan {
     }
 }
 
-/// Whether a file can hold all that a plan lists, as [`LayerPlan::is_buildable`] says.
+/// Whether a file can hold all that a plan lists, as [`FilePlan::is_buildable`] says.
 pub fn is_buildable<P: PlanView>(plan: &P) -> bool
     ensures { IsTrue result ↔ IsPlan (P.as_plan plan.now) }
 {

@@ -3,7 +3,7 @@
 ghost use Rattle.std.specs.Prelude.{◌≡◌, ◌<◌, Option, length, option_map};
 ghost use Rattle.graph_encoder.specs.DateOffsets.{offsets_of};
 ghost use Rattle.graph_encoder.specs.Rows.{IsRowAt};
-ghost use Rattle.graph_encoder.specs.declared.plan.LayerPlan.{LayerPlan};
+ghost use Rattle.graph_encoder.specs.declared.plan.FilePlan.{FilePlan};
 
 use crate::filters::PlanFilters;
 use crate::row::PlanRow;
@@ -12,7 +12,7 @@ use gix_hash_core::{Kind, ObjectId};
 /// What a file is to hold, wherever it stands: a plan can be read off, and nothing has to be copied
 /// for it.
 pub trait PlanView {
-    ghost as_plan: { Self → LayerPlan };
+    ghost as_plan: { Self → FilePlan };
 
     /// The kind of all ids.
     fn kind(&self) -> Kind

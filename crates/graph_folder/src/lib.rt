@@ -2,8 +2,8 @@
 //! lines of a chain file.
 #![tactic(auto)]
 
+pub mod chain;
 pub mod folder;
 mod law;
-pub mod lines;
 
 pub use law::texts_are_cut_into_lines;

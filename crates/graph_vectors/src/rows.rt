@@ -3,8 +3,9 @@
 ghost use Rattle.std.specs.Prelude.{◌≡◌, IfOk, length};
 ghost use Rattle.gix_hash_core.specs.declared.kind.Kind.TheVariants.{Sha1};
 
+use crate::plan::LayerPlan;
 use gix_hash_core::{Kind, ObjectId};
-use graph_encoder::{LayerPlan, PlanCommit};
+use graph_encoder::PlanCommit;
 use std::alloc::{AllocError, Global};
 
 /// A commit: the byte that its id repeats, its parents and its generation number.
@@ -19,6 +20,14 @@ pub const DIAMOND: &[Row<'static>] = &[
     (0x22, &[0], 2),
     (0x33, &[0], 2),
     (0x44, &[1, 2], 3),
+];
+
+/// Three commits in a line, and a merge of the first, the first again and the third.
+pub const OCTOPUS: &[Row<'static>] = &[
+    (0x11, &[], 1),
+    (0x22, &[0], 2),
+    (0x33, &[1], 3),
+    (0x44, &[0, 0, 2], 4),
 ];
 
 /// Ten commits in a line.
@@ -41,7 +50,7 @@ pub const TEN: &[Row<'static>] = &[
 /// # Errors
 ///
 /// `AllocError` where an allocation failed.
-fn planned_commit(
+pub fn planned_commit(
     alloc: Global,
     id: ObjectId,
     parents: &[u32],
@@ -61,8 +70,7 @@ fn planned_commit(
     })
 }
 
-/// The SHA-1 plan of these commits on these bases, each as [`planned_commit`] makes it, without
-/// dates.
+/// The SHA-1 plan of these commits on these bases, each as [`planned_commit`] makes it.
 ///
 /// # Errors
 ///
@@ -86,7 +94,5 @@ pub fn plan_of_rows(
         kind: Kind::Sha1,
         bases,
         commits,
-        date_offsets: None,
-        filters: None,
     })
 }

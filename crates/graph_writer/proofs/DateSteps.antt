@@ -19,7 +19,7 @@ use Rattle.graph_format.specs.OptionalChunks.{times_in, dates_in}
 use Rattle.graph_chunks.specs.GraphStoredDates.{times_of, dates_of}
 use Rattle.graph_chunks.proofs.StoredDateLemmas.{length-dates_of}
 use Rattle.graph_encoder.specs.Said.{SaysPlan}
-use Rattle.graph_encoder.specs.declared.plan.LayerPlan.{LayerPlan}
+use Rattle.graph_encoder.specs.declared.plan.FilePlan.{FilePlan}
 use Rattle.graph_levels.specs.OnTop.{level_at, HasOnTop, HasLevelDates}
 use Rattle.graph_levels.specs.ParentLists.{commit_count, parent_list}
 use Rattle.graph_levels.specs.declared.level.Level.{Level}
@@ -48,7 +48,7 @@ time_of place = (record_at place.0 place.1).time
 module _ (layers : List Layer) (commits : List NewCommit) (new : NewLayer) (is_new : IsNewLayer layers commits new)
     (none : new_layer_refusal layers commits ≡ None) (known : LevelsBelow) (below : AreLevelsBelow layers known)
     (own : List Level) (leveled : length own ≡ commit_count new.parents)
-    (plan : LayerPlan) (counted : length plan.commits.items ≡ length new.order.items)
+    (plan : FilePlan) (counted : length plan.commits.items ≡ length new.order.items)
     (planned : (p i : ℕ) (commit : NewCommit) → slice_get new.order.items p ≡ Some i → slice_get commits i ≡ Some commit
     → IsSomeAnd (slice_get plan.commits.items p) (IsPlanOf commit (parent_list new.parents p) (level_at own p).generation))
     (layer : Layer) (says : SaysPlan plan layer) (opened : IsOpened layer)

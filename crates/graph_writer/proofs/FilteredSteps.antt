@@ -13,7 +13,7 @@ use Rattle.graph_encoder.specs.Said.{SaysPlan}
 use Rattle.graph_encoder.specs.StoredNumbers.{stored_filter_numbers, numbers_at_head}
 use Rattle.graph_encoder.specs.Written.{filter_index, filter_data}
 use Rattle.graph_encoder.specs.declared.filters.FilterNumbers.{FilterNumbers}
-use Rattle.graph_encoder.specs.declared.plan.LayerPlan.{LayerPlan}
+use Rattle.graph_encoder.specs.declared.plan.FilePlan.{FilePlan}
 use Rattle.graph_levels.specs.OnTop.{level_at}
 use Rattle.graph_levels.specs.ParentLists.{parent_list}
 use Rattle.graph_levels.specs.declared.level.Level.{Level}
@@ -45,7 +45,7 @@ unfolding layer_filters_refusal
 refusal-with layer index body has_index has_body = rw (has_index, has_body) refl
 
 module _ (layers : List Layer) (commits : List NewCommit) (new : NewLayer) (is_new : IsNewLayer layers commits new)
-    (own : List Level) (plan : LayerPlan) (counted : length plan.commits.items ≡ length new.order.items)
+    (own : List Level) (plan : FilePlan) (counted : length plan.commits.items ≡ length new.order.items)
     (planned : (p i : ℕ) (commit : NewCommit) → slice_get new.order.items p ≡ Some i → slice_get commits i ≡ Some commit
     → IsSomeAnd (slice_get plan.commits.items p) (IsPlanOf commit (parent_list new.parents p) (level_at own p).generation))
     (layer : Layer) (says : SaysPlan plan layer) where

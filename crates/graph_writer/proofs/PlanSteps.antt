@@ -16,7 +16,7 @@ use Rattle.gix_commitgraph.specs.Graph.{total}
 use Rattle.graph_encoder.specs.DateOffsets.{offsets_of}
 use Rattle.graph_encoder.specs.ExtraEdges.{extra_words, all_extra_words, no_parent}
 use Rattle.graph_encoder.specs.Plan.{IsPlan, IsPlannedCommit, AreOffsets, AreFilters}
-use Rattle.graph_encoder.specs.declared.plan.LayerPlan.{LayerPlan}
+use Rattle.graph_encoder.specs.declared.plan.FilePlan.{FilePlan}
 use Rattle.graph_encoder.specs.declared.plan.PlanCommit.{PlanCommit}
 use Rattle.graph_levels.specs.OnTop.{level_at}
 use Rattle.graph_levels.specs.ParentLists.{commit_count, parent_list}
@@ -47,7 +47,7 @@ lists-words [] = refl
 lists-words (c ∷ commits) = ap (λ (words : List ℕ). extra_words c.parents.items ++ words) (lists-words commits)
 
 module _ (layers : List Layer) (commits : List NewCommit) (new : NewLayer) (is_new : IsNewLayer layers commits new)
-    (own : List Level) (plan : LayerPlan) (counted : length plan.commits.items ≡ length new.order.items)
+    (own : List Level) (plan : FilePlan) (counted : length plan.commits.items ≡ length new.order.items)
     (planned : (p i : ℕ) (commit : NewCommit) → slice_get new.order.items p ≡ Some i → slice_get commits i ≡ Some commit
     → IsSomeAnd (slice_get plan.commits.items p) (IsPlanOf commit (parent_list new.parents p) (level_at own p).generation)) where
   planned-lists : map (λ c. c.parents.items) plan.commits.items ≡ lists_of new

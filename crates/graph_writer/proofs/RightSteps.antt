@@ -27,7 +27,7 @@ use Rattle.gix_commitgraph.proofs.layers.LayerListLemmas.{start-all}
 use Rattle.gix_commitgraph.proofs.lookup.ElementLemmas.{pushed}
 use Rattle.gix_hash_core.specs.Digest.{digest_of}
 use Rattle.graph_encoder.specs.Said.{SaysPlan, planned_parents}
-use Rattle.graph_encoder.specs.declared.plan.LayerPlan.{LayerPlan}
+use Rattle.graph_encoder.specs.declared.plan.FilePlan.{FilePlan}
 use Rattle.graph_levels.specs.OnTop.{level_at, HasOnTop, HasLevelGenerations}
 use Rattle.graph_levels.specs.ParentLists.{commit_count, parent_list}
 use Rattle.graph_levels.specs.declared.level.Level.{Level}
@@ -49,7 +49,7 @@ positions-within n positions within = All-map (λ (pos : Position). pos.0 < n) (
 module _ (layers : List Layer) (commits : List NewCommit) (new : NewLayer) (is_new : IsNewLayer layers commits new)
     (none : new_layer_refusal layers commits ≡ None) (known : LevelsBelow) (below : AreLevelsBelow layers known)
     (own : List Level) (leveled : length own ≡ commit_count new.parents)
-    (plan : LayerPlan) (counted : length plan.commits.items ≡ length new.order.items)
+    (plan : FilePlan) (counted : length plan.commits.items ≡ length new.order.items)
     (planned : (p i : ℕ) (commit : NewCommit) → slice_get new.order.items p ≡ Some i → slice_get commits i ≡ Some commit
     → IsSomeAnd (slice_get plan.commits.items p) (IsPlanOf commit (parent_list new.parents p) (level_at own p).generation))
     (layer : Layer) (says : SaysPlan plan layer) where

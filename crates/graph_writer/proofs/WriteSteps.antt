@@ -16,7 +16,7 @@ use Rattle.graph_format.specs.OptionalChunks.{HasDates, times_in, dates_in}
 use Rattle.graph_chunks.specs.GraphStoredDates.{times_of, dates_of}
 use Rattle.graph_encoder.specs.DateOffsets.{offsets_of}
 use Rattle.graph_encoder.specs.Said.{SaysPlan}
-use Rattle.graph_encoder.specs.declared.plan.LayerPlan.{LayerPlan}
+use Rattle.graph_encoder.specs.declared.plan.FilePlan.{FilePlan}
 use Rattle.graph_levels.specs.OnTop.{level_at, HasOnTop, HasLevelGenerations, HasLevelDates}
 use Rattle.graph_levels.specs.ParentLists.{commit_count, parent_list}
 use Rattle.graph_levels.specs.declared.level.Level.{Level}
@@ -37,7 +37,7 @@ use Rattle.graph_writer.proofs.TopSteps.{opened-from, ids-top}
 use Rattle.graph_writer.proofs.WrittenSteps.{told, has-commits, as-many}
 
 -- The dates of the plan: offsets, where the graph below has dates.
-abbrev pub HasOffsets : LevelsBelow → List ℕ → List Level → LayerPlan → Type 0
+abbrev pub HasOffsets : LevelsBelow → List ℕ → List Level → FilePlan → Type 0
 HasOffsets known times own plan =
     MatchOption (offsets_of plan) (known.have_dates ≡ false)
     (λ offsets. (known.have_dates ≡ true) × AreOffsetsOf times own offsets)
@@ -50,7 +50,7 @@ module _ (layers : List Layer) (commits : List NewCommit) (new : NewLayer) (is_n
     → HasLevelGenerations history known.levels.items own → AreLocal history)
     (right : (history : List Node) (ts ds : List ℕ) → HasOnTop history (length known.levels.items) new.parents
     → HasLevelDates history ts ds known.levels.items own times → AreRight history ts ds)
-    (plan : LayerPlan) (kind : plan.kind ≡ kind_to_write layers commits)
+    (plan : FilePlan) (kind : plan.kind ≡ kind_to_write layers commits)
     (bases : plan.bases.items ≡ map (λ l. l.checksum) layers) (few : length layers ≤ 255)
     (counted : length plan.commits.items ≡ length new.order.items)
     (planned : (p i : ℕ) (commit : NewCommit) → slice_get new.order.items p ≡ Some i → slice_get commits i ≡ Some commit

@@ -11,7 +11,7 @@ use Rattle.graph_format.specs.declared.Position.{Position}
 use Rattle.gix_commitgraph.specs.Graph.{graph_ids}
 use Rattle.gix_commitgraph.proofs.lookup.ElementLemmas.{some-place, all-at}
 use Rattle.graph_encoder.specs.Said.{SaysPlan, planned_parents}
-use Rattle.graph_encoder.specs.declared.plan.LayerPlan.{LayerPlan}
+use Rattle.graph_encoder.specs.declared.plan.FilePlan.{FilePlan}
 use Rattle.graph_encoder.specs.declared.plan.PlanCommit.{PlanCommit}
 use Rattle.graph_levels.specs.OnTop.{level_at}
 use Rattle.graph_levels.specs.ParentLists.{parent_list}
@@ -46,7 +46,7 @@ pub record IsTold (commits : List NewCommit) (new : NewLayer) (own : List Level)
   pub generation : r.generation ≡ (level_at own p).generation
 
 module _ (layers : List Layer) (commits : List NewCommit) (new : NewLayer) (is_new : IsNewLayer layers commits new)
-    (own : List Level) (plan : LayerPlan) (counted : length plan.commits.items ≡ length new.order.items)
+    (own : List Level) (plan : FilePlan) (counted : length plan.commits.items ≡ length new.order.items)
     (planned : (p i : ℕ) (commit : NewCommit) → slice_get new.order.items p ≡ Some i → slice_get commits i ≡ Some commit
     → IsSomeAnd (slice_get plan.commits.items p) (IsPlanOf commit (parent_list new.parents p) (level_at own p).generation)) where
   -- what is planned of the commit at a place

@@ -4,7 +4,7 @@ use Rattle.std.specs.Prelude.{option_map}
 use Rattle.std.specs.List.{range_with_len}
 use Rattle.gix_hash_core.specs.Oid.{oid_bytes}
 use Rattle.graph_encoder.proofs.RoomSteps.{none-room, part-room, map-room}
-use Rattle.graph_encoder.specs.declared.plan.LayerPlan.{LayerPlan}
+use Rattle.graph_encoder.specs.declared.plan.FilePlan.{FilePlan}
 use Rattle.graph_encoder.specs.declared.plan.PlanCommit.{PlanCommit}
 use Rattle.graph_encoder.specs.declared.row.PlanRow.{PlanRow}
 use Rattle.graph_levels.specs.OnTop.{level_at}
@@ -84,7 +84,7 @@ planned_at plan p =
     }
 
 -- the plan that is read off
-unfoldable pub plan_of : {C : Type 0} {G : Ghosts C} → NewPlan C G → LayerPlan
+unfoldable pub plan_of : {C : Type 0} {G : Ghosts C} → NewPlan C G → FilePlan
 plan_of plan =
     let order = plan.new.now.order in
     let planned = map (planned_at plan) (range_with_len 0 (length order.items)) in

@@ -7,7 +7,7 @@ use Rattle.graph_encoder.specs.Written.{planned_file}
 use Rattle.std.proofs.Common.{◌^◌, ◌<◌, ap, arith}
 use Rattle.graph_encoder.specs.Plan.{IsPlan}
 use Rattle.graph_encoder.specs.Sizes.{sizes_of, total_size}
-use Rattle.graph_encoder.specs.declared.plan.LayerPlan.{LayerPlan}
+use Rattle.graph_encoder.specs.declared.plan.FilePlan.{FilePlan}
 use Rattle.graph_encoder.specs.declared.sizes.ChunkSize.{ChunkSize}
 use Rattle.graph_encoder.proofs.PlannedFile.{sizes-small, id-small}
 use Rattle.graph_encoder.proofs.PlannedLayer.{planned_file-read, planned_file-added}
@@ -25,7 +25,7 @@ bytes g c =
     c.deref.ensures.value
 
 -- the chunks are not too large
-small : (plan : LayerPlan) (chunks : List ChunkSize) → IsPlan plan → chunks ≡ sizes_of plan → total_size chunks < 2 ^ 40
+small : (plan : FilePlan) (chunks : List ChunkSize) → IsPlan plan → chunks ≡ sizes_of plan → total_size chunks < 2 ^ 40
 small plan chunks h e = omega (arith, ap total_size e, sizes-small plan h)
 
 pub total_size-requires : goal.total_size-requires

@@ -1,7 +1,7 @@
 use Rattle.std.proofs.Common.{◌≡◌, ◌+◌, ◌<◌, ℕ, List, length, drop, ap, ◌∙◌, arith}
 use Rattle.graph_encoder.specs.ExtraEdges.{extra_words, all_extra_words}
 use Rattle.graph_encoder.specs.Rows.{IsRowAt}
-use Rattle.graph_encoder.specs.declared.plan.LayerPlan.{LayerPlan}
+use Rattle.graph_encoder.specs.declared.plan.FilePlan.{FilePlan}
 use Rattle.graph_encoder.specs.declared.row.PlanRow.{PlanRow}
 use Rattle.graph_encoder.proofs.ExtraWords.{length-extra_words-le, words-step, words-end}
 use Rattle.graph_encoder.proofs.RowSteps.{row-here}
@@ -23,7 +23,7 @@ overflow_add-words g c =
     )
 
 -- the words of this commit and of those before it are some of all
-step : (plan : LayerPlan) (i words count : ℕ) (row : PlanRow) → i < length plan.commits.items → IsRowAt plan i row
+step : (plan : FilePlan) (i words count : ℕ) (row : PlanRow) → i < length plan.commits.items → IsRowAt plan i row
     → count ≡ length (extra_words row.parents.now)
     → words + length (all_extra_words (drop i plan.commits.items)) ≡ length (all_extra_words plan.commits.items)
     → words + count + length (all_extra_words (drop (i + 1) plan.commits.items)) ≡ length (all_extra_words plan.commits.items)
