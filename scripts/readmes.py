@@ -7,16 +7,7 @@ from documents import LINK, QUOTED, README, lower_crates, used_crates
 
 MAP = "docs/DEFINITIONS.md"
 PLAN = "docs/ARCHITECTURE.md"
-LONGEST = 60
-README_WORDS, GUIDE_WORDS = 1400, 1800
-"""How many words the README and each page of docs/ may have, blocks of code aside."""
 
-UNLIMITED = ("docs/MANUAL.md", "docs/REFUSALS.md")
-"""The pages of docs/ that have as many words as there are commands and refusals to speak of."""
-
-CODE = re.compile(r"^```.*?^```|^    .*?$", re.MULTILINE | re.DOTALL)
-GUIDE = re.compile(r"docs/\w+\.md")
-WORD = re.compile(r"\S*[^\W_]\S*")
 ROW = re.compile(r"^.* (\w+) +over ([\w, ]+)$", re.MULTILINE)
 """A row of the plan: a crate, and the highest crates that it stands on."""
 
@@ -30,22 +21,6 @@ def missing(texts):
         path = "crates/%s/README.md" % crate
         if not texts.get(path, "").startswith("# `%s`\n" % crate) or "../" + path not in linked:
             yield crate
-
-
-def long_ones(texts):
-    """The READMEs of crates that are too long."""
-    for path, text in texts.items():
-        if README.fullmatch(path) and text.count("\n") > LONGEST:
-            yield "%s has %d lines" % (path, text.count("\n"))
-
-
-def too_long_guides(texts):
-    """The documents that have too many words for their kind."""
-    for path, text in texts.items():
-        most = README_WORDS if path == "README.md" else GUIDE_WORDS
-        words = len(WORD.findall(CODE.sub("", text)))
-        if words > most and (path == "README.md" or GUIDE.fullmatch(path)) and path not in UNLIMITED:
-            yield "%s has %d words, and may have %d" % (path, words, most)
 
 
 def wrong_grounds(texts):

@@ -186,7 +186,8 @@ typedef struct cg_file { const uint8_t *bytes; size_t len; const uint8_t *path; 
  *   201 to 299          where the layers make no graph: of CG_GRAPH_HASH_MISMATCH `layer` is the first of another kind of hash
  *                       than the one below it;
  *   301 to 399          from cg_open_checked alone, where the check refuses the graph: the verdict has more;
- *   CG_OUT_OF_MEMORY    where nothing else is wrong. Memory ran out at `layer`; if that is 0, at that layer or at a later one.
+ *   CG_OUT_OF_MEMORY    where memory ran out at `layer`, or, if that is 0, there or once all layers were opened. No layer below
+ *                       `layer` is refused, nor are its own bytes; the layers above it were not looked at.
  * `layer` is 0 elsewhere. The first refusal is told, in the order of the layers. */
 typedef struct cg_error { uint32_t code; uint64_t layer; } cg_error;
 
@@ -632,7 +633,7 @@ static inline cg_bytes cg_no_bytes() { cg_bytes none = { NULL, false }; return n
  *   CG_WRITE_PARENT              the parent of number `other` of `commit` is neither handed in nor in the graph;
  *   CG_WRITE_NOTHING             no commit is handed in: Git writes no file then;
  *   401 to 405                   the corrected dates of the graph are wrong: as in cg_dates, with `layer`, `position`, `expected`;
- *   CG_WRITE_CYCLE               `commit` is its own ancestor;
+ *   CG_WRITE_CYCLE               `commit` is its own ancestor; where several are, it may be any of them;
  *   CG_WRITE_TOO_MANY_LAYERS, CG_WRITE_TOO_MANY_EDGES;
  *   CG_OUT_OF_MEMORY             which may stand before all of these from CG_WRITE_TWICE on, where a commit is handed in: from there
  *                                on memory is needed.

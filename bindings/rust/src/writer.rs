@@ -225,7 +225,7 @@ pub enum WriteError {
     Nothing,
     /// The corrected dates of the graph below are wrong.
     Dates(DatesError),
-    /// The commit is its own ancestor.
+    /// The commit is its own ancestor. Where several are, it may be any of them.
     Cycle {
         /// The commit.
         commit: usize,

@@ -21,13 +21,14 @@ use crate::listing::write_listing;
 use crate::refusal::Refusal;
 use crate::report::{Found, write_outcome};
 use crate::status::Status;
-use gix_commitgraph::File;
 use gix_commitgraph::file::Commit;
 use gix_commitgraph::opening::open_in;
 use gix_commitgraph::verify::{Outcome, VerifyError, VerifyOptions};
+use gix_commitgraph::{File, FileError};
 use gix_hash_core::ObjectId;
 use graph_ancestors::NoFault;
-use graph_folder::folder::{Folder, ReadError, read_all};
+use graph_folder::folder::{Folder, read_all};
+use graph_format::layout::layout_of;
 use std::alloc::Global;
 use std::io::{Read, Write};
 
@@ -52,7 +53,8 @@ pub fn run_list<R: Read, W: Write>(
 }
 
 /// The layer that the reader gives, and a buffer to write its listing with. All that a listing
-/// needs memory for is there before the first write, and but for the layer before the first read.
+/// needs memory for is there before the first write. Memory for more than the bytes themselves is
+/// taken only once nothing refuses them.
 fn prepare<R: Read>(alloc: Global, reader: &mut R) -> Result<(File, Buffer), Refusal>
     ensures layer { IfOk result (λ prepared. IfSome (R.remaining reader.old) (λ input.
         MayList input (Ok prepared.0))) }
@@ -60,10 +62,11 @@ fn prepare<R: Read>(alloc: Global, reader: &mut R) -> Result<(File, Buffer), Ref
     ensures refused { IfErr result (λ refusal. IfSome (R.remaining reader.old) (λ input.
         MayList input (Err refusal))) }
 {
-    let path = String::from_str(alloc, "-").map_err(|_| ReadError::OutOfMemory)?;
-    let buffer = Buffer::new(alloc).map_err(|_| ReadError::OutOfMemory)?;
     let input = read_all(alloc, reader)?;
+    layout_of(&input)?;
+    let path = String::from_str(alloc, "-").map_err(|_| FileError::OutOfMemory)?;
     let layer = File::new(alloc, input, path)?;
+    let buffer = Buffer::new(alloc).map_err(|_| FileError::OutOfMemory)?;
     Ok((layer, buffer))
 }
 

@@ -4,7 +4,7 @@ ghost use Rattle.std.specs.Prelude.{◌≡◌, ◌↔◌, IsTrue, IfOk, List, �
 ghost use Rattle.graph_encoder.specs.Plan.{IsPlan};
 ghost use Rattle.graph_encoder.specs.Said.{IsFileOf};
 ghost use Rattle.graph_encoder.specs.Written.{planned_file};
-ghost use Rattle.graph_vectors.specs.Plan.{file_plan};
+ghost use Rattle.graph_vectors.specs.FilePlan.{file_plan};
 
 use gix_hash_core::{Kind, ObjectId};
 use graph_encoder::{PlanCommit, PlanFilters, PlanRow, PlanView, build_view, is_buildable};
@@ -25,7 +25,7 @@ pub struct LayerPlan {
 
 impl LayerPlan {
     ghost use Rattle.graph_encoder.specs.Plan.{IsPlan};
-    ghost use Rattle.graph_vectors.specs.Plan.{file_plan};
+    ghost use Rattle.graph_vectors.specs.FilePlan.{file_plan};
 
     /// Whether a file can hold all of it: all ids are of the plan's kind, there are at most 255
     /// bases and fewer than 2147483648 commits, each generation number is at most 1073741823 and
@@ -41,7 +41,7 @@ impl LayerPlan {
 
 /// The plan of a file without dates and filters.
 impl PlanView for LayerPlan {
-    ghost use Rattle.graph_vectors.specs.Plan.{file_plan};
+    ghost use Rattle.graph_vectors.specs.FilePlan.{file_plan};
 
     ghost as_plan = { file_plan };
 

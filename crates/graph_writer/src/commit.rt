@@ -56,7 +56,7 @@ pub enum WriteError {
     /// The corrected dates of the graph below are wrong, or cannot be read.
     #[error("Dates")]
     Dates(DatesError),
-    /// This commit is its own proper ancestor.
+    /// This commit is its own proper ancestor. Where several are, it may be any of them.
     #[error("Cycle")]
     Cycle(usize),
     /// The graph below has 256 layers, so that no file can name all of them ("HEADER").

@@ -4,11 +4,12 @@ use Rattle.std.proofs.Common.{zero, suc, Option, Some, None, option_map, length,
 use Rattle.std.proofs.Common.{refl, sym, ⊎_elim}
 use Rattle.std.proofs.Common.{ap, subst, ◌∙◌, inl, inr, arith, eq-eqb}
 use Rattle.std.specs.Prelude.{nat_le, nat_lt, is_none}
-use Rattle.std.specs.List.{list_all}
+use Rattle.std.specs.List.{list_all, sum_by}
 use Rattle.std.specs.Option.{option_and_then, option_map_or, option_or}
 use Rattle.std.proofs.lemmas.Bool.{cases_lt, eqb-true, false_from_ne_true, lt-leb, le-ltb}
 use Rattle.std.proofs.lemmas.List.Elements.{All-nil, All-cons, All-head, All-tail}
 use Rattle.std.proofs.lemmas.List.{length-map}
+use Rattle.std.proofs.lemmas.List.Sums.{sum_by-cons}
 use Rattle.std.proofs.lemmas.Option.{same_Some, slice_get_within, slice_get-get_or, get_or_from_slice_get}
 use Rattle.gix_chunk_core.specs.FirstFault.{◌when◌, ◌otherwise◌, first_below}
 use Rattle.gix_chunk_core.proofs.FirstFaultLemmas.{first_below-none, first_below-none_from, first_below-none_at}
@@ -16,7 +17,7 @@ use Rattle.gix_chunk_core.proofs.FirstFaultLemmas.{first_below-least, option_or-
 use Rattle.gix_hash_core.specs.Kind.{id_len}
 use Rattle.gix_hash_core.specs.declared.kind.Kind.{Kind}
 use Rattle.gix_hash_core.specs.declared.kind.Kind.TheVariants.{Sha1}
-use Rattle.graph_walks.specs.History.{IsParent, parents_at}
+use Rattle.graph_walks.specs.History.{IsParent, Node, parent_numbers, parents_at}
 use Rattle.graph_walks.specs.Walks.{IsProperAncestor, IsWalk}
 use Rattle.graph_format.specs.Faults.{is_null}
 use Rattle.graph_format.specs.Layer.{Layer}
@@ -36,7 +37,7 @@ use Rattle.graph_writer.specs.Cycles.{IsNewWalk, IsOwnAncestor, NamesCommit}
 use Rattle.graph_writer.specs.NewCommits.{new_ids, HoldIds}
 use Rattle.graph_writer.specs.WriteRefusal.{is_of_kind, has_ids_of_kind, own_refusal, own_refusal_at, twice_at, below_at}
 use Rattle.graph_writer.specs.WriteRefusal.{parent_at, is_unknown, kind_of_id, kind_to_write, new_layer_refusal, plain_refusal}
-use Rattle.graph_writer.specs.WritingRefusal.{MayRefuseLater, MayRefuseWriting}
+use Rattle.graph_writer.specs.WritingRefusal.{MayRefuseLater, MayRefuseWriting, word_count, words_for}
 use Rattle.graph_writer.specs.declared.commit.NewCommit.{NewCommit}
 use Rattle.graph_writer.specs.declared.commit.WriteError.{WriteError}
 use Rattle.graph_writer.specs.declared.commit.WriteError.TheVariants as error
@@ -47,7 +48,7 @@ use Rattle.graph_writer.proofs.NullSteps.{is_null-decides}
 use Rattle.graph_writer.proofs.RefusalSteps.{kind_of_first, none_below, plain-some}
 use Rattle.write_commands.specs.GraphCommits.{AreCommitsOf}
 use Rattle.write_commands.specs.MergedCommits.{MayRefuseCommitsOf}
-use Rattle.write_commands.specs.MergeReasons.{IsReasonNotToMerge, StandsTwice}
+use Rattle.write_commands.specs.MergeReasons.{IsReasonNotToMerge, StandsTwice, words_of_all}
 use Rattle.write_commands.proofs.PlainSteps.{IsPlain, plain-at, size-at}
 
 -- what nothing refuses by itself
@@ -102,6 +103,28 @@ held-at all positions [] k id h at = absurd (omega (arith, slice_get_within [] k
 held-at all [] (x ∷ ids) k id h at = absurd (cc)
 held-at all (p ∷ positions) (x ∷ ids) zero id h at = (p, refl, cc)
 held-at all (p ∷ positions) (x ∷ ids) (suc k) id h at = held-at all positions ids k id (cc) at
+
+-- as many ids as positions that they stand at
+as-many-ids : (all : List (List ℕ)) (positions : List ℕ) (ids : List (List ℕ)) → HoldIds all positions ids
+    → length ids ≡ length positions
+as-many-ids all positions ids h =
+    sym (length-map ids (λ (id : List ℕ). Some id)) ∙ ap length (sym h) ∙ length-map positions (slice_get all)
+
+-- commits with as many parents each as those of a history have as many words
+same-words : (commits : List NewCommit) (history : List Node) → length commits ≡ length history
+    → ((p : ℕ) (commit : NewCommit) → slice_get commits p ≡ Some commit
+    → length commit.parents.items ≡ length (parents_at history p))
+    → word_count commits ≡ sum_by words_for (parent_numbers history)
+same-words [] [] as_many each = refl
+same-words [] (node ∷ history) as_many each = absurd (omega as_many)
+same-words (commit ∷ commits) [] as_many each = absurd (omega as_many)
+same-words (commit ∷ commits) (node ∷ history) as_many each =
+    sum_by-cons (λ (c : NewCommit). words_for (length c.parents.items)) commit commits
+    ∙ ap (λ (n : ℕ). words_for n + word_count commits) (each 0 commit refl)
+    ∙ ap (λ (n : ℕ). words_for (length node.parents) + n)
+    (same-words commits history (omega as_many)
+    (λ (p : ℕ) (c : NewCommit) (at : slice_get commits p ≡ Some c). each (suc p) c at))
+    ∙ sym (sum_by-cons words_for (length node.parents) (parent_numbers history))
 
 -- no dates are refused of no layers
 no-dates : graph_dates_refusal [] ≡ None
@@ -311,6 +334,12 @@ module _ (layers : List Layer) (graph : IsGraph layers) (sound : Sound layers) (
       own.long,
     )
 
+    words-of-all : word_count commits ≡ words_of_all layers
+    words-of-all =
+        same-words commits (history_of layers) (are.as_many ∙ sym (length-history layers graph.opened))
+        (λ (p : ℕ) (commit : NewCommit) (at : slice_get commits p ≡ Some commit).
+        as-many-ids (graph_ids layers) (parents_at (history_of layers) p) commit.parents.items (are.each p commit at).parents)
+
     later-reason : (fault : WriteError) → MayRefuseLater [] commits fault → IsReasonNotToMerge layers fault
     later-reason (error.Kind i) h = absurd h
     later-reason (error.NullId i) h = absurd h
@@ -324,7 +353,7 @@ module _ (layers : List Layer) (graph : IsGraph layers) (sound : Sound layers) (
     later-reason (error.Dates fault) h = absurd (let refused : None ≡ Some fault = sym no-dates ∙ h.1 in cc)
     later-reason (error.Cycle i) h = cycle i h.1
     later-reason error.TooManyLayers h = absurd (omega (arith, h.2))
-    later-reason error.TooManyEdges h = tt
+    later-reason error.TooManyEdges h = omega (arith, h.2, words-of-all)
     later-reason error.OutOfMemory h = absurd h
 
   memory-reason : (fault : WriteError) → fault ≡ error.OutOfMemory → 0 < total layers → IsReasonNotToMerge layers fault

@@ -34,7 +34,8 @@ pub fn a_layer_with_the_filters_of_a_graph_says_the_same()
 {}
 
 /// Why the commits of a right graph are refused: an id stands at two positions, a commit is its own
-/// ancestor, there are none, they have too many parents for a file, or memory ran out.
+/// ancestor, there are none, one extra edge list of all of them has 2^31 words or more, or memory
+/// ran out.
 #[tactic(auto, using(crate::proofs::ReasonSteps::reasons))]
 pub fn a_right_graph_is_refused_for_few_reasons()
     ensures { (layers : List Layer) (fault : WriteError) → IsGraph layers → Sound layers
