@@ -11,8 +11,8 @@ use crate::reading::read_head;
 use gix_commitgraph::MAX_COMMITS;
 use gix_commitgraph::opening::path::{chain_path, layer_path};
 use gix_hash_core::Kind;
-use graph_folder::folder::{Folder, ReadError};
 use graph_folder::chain::Lines;
+use graph_folder::folder::{Folder, ReadError};
 use std::alloc::Global;
 
 /// The file of a layer, and its head.

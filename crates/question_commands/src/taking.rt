@@ -22,8 +22,8 @@ use gix_commitgraph::opening::{
 };
 use gix_commitgraph::{File, Graph, GraphError};
 use graph_commands::refusal::Refusal;
-use graph_folder::folder::{Folder, ReadError};
 use graph_folder::chain::Lines;
+use graph_folder::folder::{Folder, ReadError};
 use graph_history::{CheckedGraph, PushError};
 use graph_layer::opening::{open_layer, read_file};
 use std::alloc::{AllocError, Global};

@@ -18,8 +18,8 @@ use crate::file::File;
 use crate::graph::Graph;
 use crate::opening::path::{chain_path, layer_path};
 use crate::opening::{OpenError, new_graph};
-use graph_folder::folder::Folder;
 use graph_folder::chain::Lines;
+use graph_folder::folder::Folder;
 use graph_layer::opening::{open_layer, read_file};
 use std::alloc::{AllocError, Global};
 
