@@ -4,9 +4,11 @@ ghost use Rattle.std.specs.Prelude.{◌≡◌, [], IfOk, IfErr, IfSome, Ok, Err}
 ghost use Rattle.std.specs.BTreeMap.{IsOrdered};
 ghost use Rattle.std.specs.Io.KnownBytes.{Appends};
 ghost use Rattle.std.specs.Ordering.{nat_cmp};
+ghost use Rattle.graph_format.specs.Layer.{IsLayer};
+ghost use Rattle.graph_format.specs.Opened.{MayRefuse};
 ghost use Rattle.graph_commands.specs.WrittenAnswer.{WritesAnswer, WritesRefusal};
 ghost use Rattle.graph_commands.specs.OpenerAnswer.{MayOpen};
-ghost use Rattle.graph_commands.specs.List.{MayList, list_text, list_status};
+ghost use Rattle.graph_commands.specs.List.{MayList, list_path, list_status, list_text};
 ghost use Rattle.graph_commands.specs.Find.{MayFind, find_text, find_status};
 ghost use Rattle.graph_commands.specs.Report.{outcome_text};
 ghost use Rattle.graph_commands.specs.CheckAnswers.{MayVerify, MayVerifyDistinct};
@@ -52,9 +54,8 @@ pub fn run_list<R: Read, W: Write>(
     }
 }
 
-/// The layer that the reader gives, and a buffer to write its listing with. All that a listing
-/// needs memory for is there before the first write. Memory for more than the bytes themselves is
-/// taken only once nothing refuses them.
+/// The layer that the reader gives, and a buffer to write its listing with: all that a listing
+/// needs memory for is there before the first write.
 fn prepare<R: Read>(alloc: Global, reader: &mut R) -> Result<(File, Buffer), Refusal>
     ensures layer { IfOk result (λ prepared. IfSome (R.remaining reader.old) (λ input.
         MayList input (Ok prepared.0))) }
@@ -63,10 +64,19 @@ fn prepare<R: Read>(alloc: Global, reader: &mut R) -> Result<(File, Buffer), Ref
         MayList input (Err refusal))) }
 {
     let input = read_all(alloc, reader)?;
+    Ok(prepare_layer(alloc, input)?)
+}
+
+/// The layer of these bytes, and a buffer. Memory is taken only once nothing refuses the bytes.
+fn prepare_layer(alloc: Global, input: Vec<u8>) -> Result<(File, Buffer), FileError>
+    ensures layer { IfOk result (λ prepared. IsLayer input.items list_path prepared.0) }
+    ensures buffer { IfOk result (λ prepared. prepared.1 ≡ []) }
+    ensures refused { IfErr result (MayRefuse input.items) }
+{
     layout_of(&input)?;
     let path = String::from_str(alloc, "-").map_err(|_| FileError::OutOfMemory)?;
-    let layer = File::new(alloc, input, path)?;
     let buffer = Buffer::new(alloc).map_err(|_| FileError::OutOfMemory)?;
+    let layer = File::new(alloc, input, path)?;
     Ok((layer, buffer))
 }
 
