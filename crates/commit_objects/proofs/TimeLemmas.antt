@@ -1,20 +1,22 @@
 -- What the words of times come to.
-use Rattle.std.proofs.Common.{◌≡◌, ◌≢◌, ◌≤◌, ◌<◌, ℕ, ◌+◌, ◌-◌, ◌*◌, ◌^◌, Bool, true, false, not, List, [], ◌∷◌, ◌++◌}
-use Rattle.std.proofs.Common.{length, take, drop, get_or, Bor, min, cond, refl, sym, ap, ◌∙◌, arith, length-append}
+use Rattle.std.proofs.Common.{◌≡◌, ◌≢◌, ◌≤◌, ◌<◌, ℕ, ◌+◌, ◌-◌, ◌*◌, Bool, true, false, not, List, [], ◌∷◌, ◌++◌}
+use Rattle.std.proofs.Common.{length, take, drop, get_or, Bor, cond, refl, sym, ap, ◌∙◌, arith, length-append, ⊎_elim}
 use Rattle.std.proofs.lemmas.Bool.Decides.{nat_tests, Decides-eqb}
-use Rattle.std.proofs.lemmas.Bool.{eqb-true, eq-eqb}
+use Rattle.std.proofs.lemmas.Bool.{eqb-true, eq-eqb, cases_lt}
 use Rattle.std.proofs.lemmas.Grind.{common_steps}
 use Rattle.std.proofs.lemmas.Slice.Eq.{starts_is}
+use Rattle.std.proofs.lemmas.List.{take-take}
 use Rattle.std.proofs.lemmas.List.Sums.{split_at_first, passes_at_first, fails_before_first, suffix_len_is, prefix_len_is}
-use Rattle.std.proofs.lemmas.List.Sums.{position_or_len_is}
+use Rattle.std.proofs.lemmas.List.Sums.{position_or_len_is, prefix_len_stops}
 use Rattle.std.proofs.Math.Seq.{drop-append_seam}
 use Rattle.std.specs.Prelude.{MatchOption, IfSome, Option, Some, None, option_map, position, nat_eq, nat_lt, ◌==◌}
-use Rattle.std.specs.List.{starts_with, after_last, before_first, after_first, position_or_len, suffix_len}
+use Rattle.std.specs.List.{starts_with, prefix_len, after_last, before_first, after_first, position_or_len, suffix_len}
 use Rattle.std.specs.Str.Parse.{digits_value}
 use Rattle.std.specs.Char.{digit_value, is_ascii_digit}
 use Rattle.std.proofs.lemmas.Int.Digits.{digits_value_push}
+use Rattle.std.proofs.lemmas.Str.Parse.{digits_value-take-le}
 use Rattle.memchr.specs.Find.{IsFirstByte, is_byte}
-use Rattle.commit_objects.specs.Time.{behind_word, behind_byte, behind_last_byte, leading_number}
+use Rattle.commit_objects.specs.Time.{behind_word, behind_byte, behind_last_byte, spelled_number}
 
 -- what a word is followed by, as `strip_prefix` tells it
 pub behind_word_is : (word bytes : List ℕ) (r : Option (Bor (List ℕ)))
@@ -110,10 +112,10 @@ behind_last_byte-some value bytes front rest e none =
         cc (same, other)
 
 -- one more digit
-pub one_more_digit : (bytes : List ℕ) (i : ℕ) → i < length bytes → 48 ≤ get_or bytes i 0 → get_or bytes i 0 ≤ 57
+pub one_more_digit : (bytes : List ℕ) (i : ℕ) → i < length bytes → is_ascii_digit (get_or bytes i 0) ≡ true
     → digits_value 10 (take (i + 1) bytes) ≡ digits_value 10 (take i bytes) * 10 + (get_or bytes i 0 - 48)
-one_more_digit bytes i within low high =
-    let digit : digit_value (get_or bytes i 0) ≡ get_or bytes i 0 - 48 = grind (arith, nat_tests) in
+one_more_digit bytes i within is =
+    let digit : digit_value (get_or bytes i 0) ≡ get_or bytes i 0 - 48 = grind (arith, nat_tests, is) in
     let last : take (i + 1) bytes ≡ take i bytes ++ (get_or bytes i 0 ∷ []) = grind (arith, common_steps) in
     ap (digits_value 10) last ∙ digits_value_push 10 (take i bytes) (get_or bytes i 0)
     ∙ ap (λ n. digits_value 10 (take i bytes) * 10 + n) digit
@@ -121,11 +123,21 @@ one_more_digit bytes i within low high =
 -- where the digits end, the number is theirs
 pub number_ends : (bytes : List ℕ) (i : ℕ) → i ≤ length bytes
     → ((k : ℕ) → k < i → is_ascii_digit (get_or bytes k 0) ≡ true)
-    → (i < length bytes → is_ascii_digit (get_or bytes i 0) ≡ false)
-    → min (digits_value 10 (take i bytes)) (2 ^ 64 - 1) ≡ leading_number bytes
+    → (i < length bytes → is_ascii_digit (get_or bytes i 0) ≡ false) → digits_value 10 (take i bytes) ≡ spelled_number bytes
 number_ends bytes i within digits other =
-    ap (λ n. min (digits_value 10 (take n bytes)) (2 ^ 64 - 1))
-    (sym (prefix_len_is is_ascii_digit bytes i 0 within digits other))
+    ap (λ n. digits_value 10 (take n bytes)) (sym (prefix_len_is is_ascii_digit bytes i 0 within digits other))
+
+-- the digits so far spell no more than all
+pub number_grows : (bytes : List ℕ) (i : ℕ) → i ≤ length bytes
+    → ((k : ℕ) → k < i → is_ascii_digit (get_or bytes k 0) ≡ true) → digits_value 10 (take i bytes) ≤ spelled_number bytes
+number_grows bytes i within digits = rw (sym (take-take i (prefix_len is_ascii_digit bytes) bytes reached))
+    (digits_value-take-le 10 (take (prefix_len is_ascii_digit bytes) bytes) i (omega arith))
+  where
+    reached : i ≤ prefix_len is_ascii_digit bytes
+    reached = ⊎_elim
+        (λ less. let stops = prefix_len_stops is_ascii_digit bytes 0 (omega (arith, less, within)) in
+        cc (stops, digits (prefix_len is_ascii_digit bytes) less))
+        (λ e. e) (cases_lt (prefix_len is_ascii_digit bytes) i)
 
 not_passed : (b : Bool) → ¬ (b ≡ true) → b ≡ false
 not_passed true never = absurd (never refl)

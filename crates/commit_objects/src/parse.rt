@@ -71,8 +71,8 @@ impl<'a> CommitObject<'a> {
         self.parents.again()
     }
 
-    /// The committer's time, in seconds since 1970-01-01 00:00:00 UTC, as Git reads it from 2.41 on
-    /// and libgit2 does. It is 0 where they find none.
+    /// The committer's time, in seconds since 1970-01-01 00:00:00 UTC, as Git from 2.41 on reads
+    /// it. It is 0 where Git finds none.
     pub fn newer_time(&self) -> u64
         ensures { result ≡ spec.newer_time self.now.rest }
     {

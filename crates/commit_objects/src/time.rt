@@ -1,7 +1,7 @@
 //! Reading the time of a commit.
 
 ghost use Rattle.std.specs.Prelude.{◌≡◌, ◌<◌, ◌==◌, option_map, option_and_then, position};
-ghost use Rattle.std.specs.Prelude.{◌+◌, ◌*◌, ◌-◌, ◌^◌, ◌≤◌, length, min, IfSome};
+ghost use Rattle.std.specs.Prelude.{◌+◌, ◌*◌, ◌^◌, ◌≤◌, length, IfSome, SomeIff};
 ghost use Rattle.commit_objects.specs.Time as spec;
 
 use crate::line::behind_word;
@@ -13,19 +13,28 @@ pub(crate) fn newer_time(rest: &[u8]) -> u64
     ensures { result ≡ spec.newer_time rest.now }
 {
     match newer_date(rest) {
-        Some(date) => leading_number(without_spaces(date)),
-        None => 0,
+        Some(date) if begins_number(date) => parse_timestamp(date),
+        _ => 0,
     }
 }
 
-/// What follows the last `>` in the committer's line.
+/// What follows the last `>` in the committer's line, without Git's spaces at its front.
 fn newer_date(rest: &[u8]) -> Option<&[u8]>
     ensures { option_map (λ x. x.now) result
-        ≡ option_and_then (spec.behind_last_byte spec.end_of_address)
-        (option_and_then (spec.before_byte spec.line_feed) (spec.behind_committer rest.now)) }
+        ≡ option_map spec.without_git_spaces
+        (option_and_then (spec.behind_last_byte spec.end_of_address)
+        (option_and_then (spec.before_byte spec.line_feed) (spec.behind_committer rest.now))) }
 {
     let line = before_byte(b'\n', behind_committer(rest)?)?;
-    behind_last_byte(b'>', line)
+    let date = behind_last_byte(b'>', line)?;
+    Some(without_git_spaces(date))
+}
+
+/// Whether a digit or a minus sign is the first byte.
+fn begins_number(bytes: &[u8]) -> bool
+    ensures { result ≡ spec.begins_number bytes.now }
+{
+    matches!(bytes, [b'0'..=b'9' | b'-', ..])
 }
 
 /// The committer's time, in seconds since 1970-01-01 00:00:00 UTC, as Git up to 2.40 reads it from
@@ -35,7 +44,7 @@ pub fn older_time(rest: &[u8]) -> u64
     ensures { result ≡ spec.older_time rest.now }
 {
     match older_date(rest) {
-        Some(date) if goes_on(date) => leading_number(without_plus(without_spaces(date))),
+        Some(date) if goes_on(date) => parse_timestamp(date),
         _ => 0,
     }
 }
@@ -103,12 +112,36 @@ fn behind_last_byte(value: u8, bytes: &[u8]) -> Option<&[u8]>
     Some(rest)
 }
 
-/// The bytes without the spaces at their front.
+/// The number of Git's `parse_timestamp`, which is C's `strtoumax`: spaces and a sign may stand
+/// before it. It is 2^64 - 1 where 64 bits do not hold it. A minus sign negates it modulo 2^64.
+#[tactic(auto, unfolding(crate::specs::Time::parse_timestamp))]
+fn parse_timestamp(bytes: &[u8]) -> u64
+    ensures { result ≡ spec.parse_timestamp bytes.now }
+{
+    let number = without_spaces(bytes);
+    match behind_word(b"-", number) {
+        Some(digits) => negated_number(digits),
+        None => leading_number(without_plus(number)),
+    }
+}
+
+/// The bytes without the spaces at their front, as C knows them.
 fn without_spaces(bytes: &[u8]) -> &[u8]
     ensures { result.now ≡ spec.without_spaces bytes.now }
 {
     let mut rest = bytes;
     while let [b' ' | b'\t'..=b'\r', next @ ..] = rest {
+        rest = next;
+    }
+    rest
+}
+
+/// The bytes without the spaces at their front, as Git knows them: fewer than C does.
+fn without_git_spaces(bytes: &[u8]) -> &[u8]
+    ensures { result.now ≡ spec.without_git_spaces bytes.now }
+{
+    let mut rest = bytes;
+    while let [b' ' | b'\t' | b'\n' | b'\r', next @ ..] = rest {
         rest = next;
     }
     rest
@@ -126,25 +159,44 @@ fn without_plus(bytes: &[u8]) -> &[u8]
 pub fn leading_number(bytes: &[u8]) -> u64
     ensures { result ≡ spec.leading_number bytes.now }
 {
+    checked_number(bytes).unwrap_or(u64::MAX)
+}
+
+/// The number that the decimal digits at the front of the bytes spell, negated modulo 2^64, and
+/// 2^64 - 1 where 64 bits do not hold it.
+fn negated_number(bytes: &[u8]) -> u64
+    ensures { result ≡ spec.negated_number bytes.now }
+{
+    match checked_number(bytes) {
+        Some(number) => number.wrapping_neg(),
+        None => u64::MAX,
+    }
+}
+
+/// The number that the decimal digits at the front of the bytes spell, where 64 bits hold it.
+fn checked_number(bytes: &[u8]) -> Option<u64>
+    ensures { SomeIff result (spec.spelled_number bytes.now < 2 ^ 64)
+        (spec.spelled_number bytes.now) }
+{
     let mut number = 0u64;
     for byte in bytes {
         if !byte.is_ascii_digit() {
             break;
         }
-        number = with_digit(number, *byte - b'0');
+        number = with_digit(number, *byte - b'0')?;
     }
-    number
+    Some(number)
 }
 
-/// The number with one more digit, or 2^64 - 1 where it is greater than that. Short numbers, as
-/// almost all are, take no saturating steps.
-fn with_digit(number: u64, digit: u8) -> u64
+/// The number with one more digit, where 64 bits hold it. Short numbers, as almost all are, take no
+/// checked steps.
+fn with_digit(number: u64, digit: u8) -> Option<u64>
     requires { digit ≤ 9 }
-    ensures { result ≡ min (number * 10 + digit) (2 ^ 64 - 1) }
+    ensures { SomeIff result (number * 10 + digit < 2 ^ 64) (number * 10 + digit) }
 {
     if number < u64::MAX / 10 {
-        number * 10 + digit as u64
+        Some(number * 10 + digit as u64)
     } else {
-        number.saturating_mul(10).saturating_add(digit as u64)
+        number.checked_mul(10)?.checked_add(digit as u64)
     }
 }

@@ -107,12 +107,12 @@ def timed(histories, place):
 
 
 def late(histories, place):
-    """A late time is none that a record can have; one below zero is 0."""
-    for number in (*LARGE, b"-5"):
+    """A late time is none that a record can have: it is not in a graph, and is not written."""
+    for number in LARGE:
         contents = place.contents(AUTHOR + b"committer C <c> %s +0000\n\nm\n" % number)
         for time in (0, 1, 5, 2**34 - 5, 2**34 - 1):
-            said = "ok" if (number, time) == (b"-5", 0) else "refused objects 10 position @"
-            yield place.run(histories, contents, said, time=time)
+            yield place.run(histories, contents, "refused objects 10 position @", time=time)
+        yield partial(histories.write, place.entry(contents)), partial(judge.verdict, "refused write 4 commit 0\n")
 
 
 def unreadable(histories, place):

@@ -244,7 +244,7 @@ def check_odd(histories, results, repository):
     check_readings(histories, results, roots, odd)
     held = [commit for commit in sorted(odd) if odd[commit].times[0] < 2**34]
     check_times(histories, results, roots, {commit: odd[commit] for commit in held})
-    check_by_git(histories, results, repository, [commit for commit in held if odd[commit].name != "a time below zero"])
+    check_by_git(histories, results, repository, odd)
     check_parents(histories, results, roots)
     runs = []
     for name, contents in unreadable(roots.tree.encode()).items():
@@ -267,12 +267,12 @@ def check_cut_line(histories, results, roots):
 
 
 def check_readings(histories, results, roots, odd):
-    """All odd commits with the times that a newer Git reads, and with those of an older one: but for one, which no record holds,
+    """All odd commits with the times that a newer Git reads, and with those of an older one: but for those that no record holds,
     they are right.
     """
     ids = sorted(odd)
-    late = next(at for at, commit in enumerate(ids) if odd[commit].name == "a time past 34 bits")
     for name, which in (("newer", 0), ("older", -1)):
+        late = next(at for at, commit in enumerate(ids) if odd[commit].times[which] >= 2**34)
         path = roots.graph(name, {commit: it.times[which] % 2**34 for commit, it in odd.items()})
         answer = histories.objects(path, batch(roots.repository, ids))
         title = "%s, odd commits, as a %s Git reads their times" % (roots.kind, name)
@@ -291,12 +291,29 @@ def check_times(histories, results, roots, odd):
     check_runs(results, "%s, odd commits, with right times and others" % roots.kind, runs)
 
 
-def check_by_git(histories, results, repository, ids):
-    """The graph that the installed Git writes of odd commits."""
-    repository.write_graph(tips=ids)
-    answer = histories.objects(repository.graph_path(), batch(repository, ids))
+def check_by_git(histories, results, repository, odd):
+    """The graph that the installed Git writes of odd commits: it has the low bits of their times, and is right where records hold
+    these.
+    """
     title = "%s, odd commits, in the graph that Git writes" % repository.object_format
-    results.check(title, judge.same("ok commits %d\n" % len(ids), answer))
+    which = 0 if git_release() >= (2, 41) else -1
+    times = {commit: it.times[which] for commit, it in odd.items()}
+    repository.write_graph(tips=sorted(odd))
+    graph = Graph([read_bytes(repository.graph_path())])
+    wrong = [odd[commit].name for commit, record in zip(graph.ids, graph.records) if record[2] != times[commit] % 2**34]
+    other = None if graph.ids == sorted(odd) else "other commits"
+    results.check(title + ", the times", "another time of " + wrong[0] if wrong else other)
+    held = [commit for commit in sorted(odd) if times[commit] < 2**34]
+    os.remove(repository.graph_path())
+    repository.write_graph(tips=held)
+    answer = histories.objects(repository.graph_path(), batch(repository, held))
+    results.check(title, judge.same("ok commits %d\n" % len(held), answer))
+
+
+def git_release():
+    """The first two numbers of the installed Git's release."""
+    release = subprocess.check_output(["git", "--version"], text=True)
+    return tuple(int(number) for number in release.split()[2].split(".")[:2])
 
 
 def check_parents(histories, results, roots):

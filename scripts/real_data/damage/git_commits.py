@@ -101,9 +101,12 @@ TIMES = (
 --stdin-commits` of 2.39.5 wrote. The one before is meant for Git from 2.41 on, which was not run: libgit2 1.5.1 answers it too
 (`git_commit_time`) where it reads the committer's line, but 234 for `<c@x>1234`, and 66 for `+66`."""
 
-LARGE = (b"17179869185", b"18446744073709551616", b"100000000000000000000000")
-"""Times that no record holds. Of the first Git 2.39.5 stores the low 34 bits, 1, and of the others those of the greatest number of 64
-bits. It refuses these files."""
+LARGE = (
+    *(b"17179869185", b"18446744073709551616", b"100000000000000000000000"),
+    *(b"-5", b"-17179869184", b"-18446744073709551616", b"-100000000000000000000000"),
+)
+"""Times that no record holds. Git 2.39.5 stores their low 34 bits: of a number with a minus sign those of 2^64 less it, so 2^34 - 5 of
+the first such, and of all that 64 bits do not hold those of 2^64 - 1. It refuses these files."""
 
 SMALL = b"{1}" + PEOPLE + b"\nm\n"
 """A commit with one parent."""

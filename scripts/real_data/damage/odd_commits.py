@@ -1,6 +1,7 @@
 """Commits that Git's own commands do not make, and the time that each of them has.
 
-The numbers are those that Git was seen to read: from 2.41 on, and before.
+The older of two times is the one that Git 2.39.5 was seen to read and to store. The newer one follows the sources of Git from 2.41 on,
+which was not run.
 """
 
 from typing import NamedTuple, Tuple
@@ -24,6 +25,12 @@ def committed(name, line, *times, after=b"\n\nmessage\n"):
 LARGE = 17179869185
 """A time that no record holds."""
 
+GREATEST = 2**64 - 1
+"""The greatest time of Git, and what it takes for all numbers that are greater."""
+
+FIVE_SHORT = 2**64 - 5
+"""With a minus sign this is 5 to Git, and 5 is this."""
+
 ODD = [
     committed("a plain time", b"C <c@x> 1234567890 +0000", 1234567890),
     committed("a time without a zone", b"C <c@x> 1234", 1234),
@@ -35,7 +42,35 @@ ODD = [
     committed("an address for a name", b"<A> <b@c> 5 +0000", 5, 0),
     committed("two addresses and times", b"C <a> 5 +0000 <b> 6 +0000", 6, 5),
     committed("no address", b"C c@x 99 +0000", 0),
-    committed("a time below zero", b"C <c> -5 +0000", 0),
+    committed("a minus sign", b"C <c> -5 +0000", FIVE_SHORT),
+    committed("a minus sign before a great number", b"C <c> -%d +0000" % FIVE_SHORT, 5),
+    committed("a minus sign before 0", b"C <c> -0 +0000", 0),
+    committed("a minus sign behind spaces", b"C <c>  \t \r-%d +0000" % FIVE_SHORT, 5),
+    committed("a minus sign behind no space", b"C <c>-%d" % FIVE_SHORT, 5),
+    committed("a minus sign behind the time", b"C <c> 5-3", 5),
+    committed("a minus sign alone", b"C <c> - +0000", 0),
+    committed("a minus sign that ends the line", b"C <c> -", 0, after=b"\n5\n"),
+    committed("a minus sign in the next line", b"C <c>", 0, 5, after=b"\n-%d\n\nmessage\n" % FIVE_SHORT),
+    committed("a space behind a minus sign", b"C <c> - 5 +0000", 0),
+    committed("a space behind a minus sign, before a great number", b"C <c> - %d +0000" % FIVE_SHORT, 0),
+    committed("two minus signs", b"C <c> --5 +0000", 0),
+    committed("a plus sign behind a minus sign", b"C <c> -+%d +0000" % FIVE_SHORT, 0),
+    committed("a plus sign", b"C <c> +5 +0000", 0, 5),
+    committed("a space behind a plus sign", b"C <c> + 5 +0000", 0),
+    committed("a minus sign behind a plus sign", b"C <c> +-%d +0000" % FIVE_SHORT, 0),
+    committed("the greatest time", b"C <c> %d +0000" % GREATEST, GREATEST),
+    committed("a greater number", b"C <c> %d +0000" % 2**64, GREATEST),
+    committed("a number of 40 digits", b"C <c> " + 40 * b"7", GREATEST),
+    committed("the greatest time with a minus sign", b"C <c> -%d +0000" % GREATEST, 1),
+    committed("a greater number with a minus sign", b"C <c> -%d +0000" % 2**64, GREATEST),
+    committed("a number of 40 digits with a minus sign", b"C <c> -" + 40 * b"7", GREATEST),
+    committed("zeros behind a minus sign", b"C <c> -%060d +0000" % FIVE_SHORT, 5),
+    committed("a vertical tab before the time", b"C <c> \v5 +0000", 0, 5),
+    committed("a form feed before the time", b"C <c>\f5 +0000", 0, 5),
+    committed("a vertical tab before a minus sign", b"C <c>\v-%d +0000" % FIVE_SHORT, 0, 5),
+    committed("a carriage return before the time", b"C <c> \r5 +0000", 5),
+    committed("no digit", b"C <c> x +0000", 0),
+    committed("nothing behind the address", b"C <c>", 0),
     committed("a time past 34 bits", b"C <c> %d +0000" % LARGE, LARGE),
     committed("blanks, and a number in the message", b"C <c@x>   ", 0, 123, after=b"\n\n123 message\n"),
     committed("an address in the message", b"C c@x 99 +0000", 0, 7, after=b"\n\nm > 7 x\nmore\n"),

@@ -1,7 +1,8 @@
 """What `ids` and `objects` have to say of a graph and of a stream of commits, by a plain reading of both.
 
 It is written from the documents of Git: `git-cat-file`, "BATCH OUTPUT", for the stream; "Git Objects" and `git-commit-tree` for the
-object; and from what Git was seen to read as a commit's time. It shares nothing with the program.
+object; and, for a commit's time, from what Git 2.39.5 was seen to read and from the sources of Git from 2.41 on. It shares nothing
+with the program.
 """
 
 import hashlib
@@ -16,7 +17,11 @@ LONGEST_LINE = 64 + len(" commit ") + 20 + 1
 """The bytes of the longest line: 64 digits, a type, a size of 64 bits, and a line end."""
 
 TYPES = rb"commit|tree|blob|tag"
-BLANKS = rb"[\t\n\v\f\r ]*"
+NEWER_DATE = rb"[\t\n\r ]*(-?[0-9]+)"
+"""The number of a date behind what Git itself takes for blanks: a digit or a minus sign is first."""
+
+OLDER_DATE = rb"[\t\n\v\f\r ]*([-+]?[0-9]+)"
+"""The number of a date as C's strtoumax finds it."""
 
 
 class Graph:
@@ -142,7 +147,7 @@ def newer_time(below):
     line, end, _ = below.partition(b"\n")
     if not end or b">" not in line:
         return 0
-    return number(re.match(BLANKS + rb"([0-9]*)", line[line.rindex(b">") + 1 :])[1])
+    return number(re.match(NEWER_DATE, line[line.rindex(b">") + 1 :]))
 
 
 def older_time(below):
@@ -153,9 +158,10 @@ def older_time(below):
     end = behind.find(b"\n")
     if end < 0 or end == len(behind) - 1:
         return 0
-    return number(re.match(BLANKS + rb"\+?([0-9]*)", behind)[1])
+    return number(re.match(OLDER_DATE, behind))
 
 
-def number(digits):
-    """The number of some digits, of those that 64 bits hold."""
-    return min(int(digits or b"0"), 2**64 - 1)
+def number(match):
+    """What C's strtoumax makes of a number that was found: its remainder, and the greatest one where 64 bits do not hold it."""
+    value = int(match[1]) if match else 0
+    return value % 2**64 if abs(value) < 2**64 else 2**64 - 1
