@@ -95,8 +95,8 @@ fn compare_bytes(rt: &impl Abort, file: &[u8], size: usize, places: Places) {
     }
 }
 
-/// Compares the parents of a commit.
-fn compare_parents(rt: &impl Abort, file: &File, pos: u32, want: &[u32]) {
+/// Compares the parents of the commit at a position.
+pub fn compare_parents(rt: &impl Abort, file: &File, pos: u32, want: &[u32]) {
     let parents = commit_of(rt, file, pos).iter_parents();
     assert!(rt; parents.eq(want.iter().map(|parent| Ok(Position(*parent)))));
 }

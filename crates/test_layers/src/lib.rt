@@ -1,6 +1,6 @@
-//! Tests of ids, of tables of chunks and of one layer, with values that formats and arithmetic give:
-//! which files open, what is read of them and of their commits, where their ids are found, and what
-//! a check of one layer answers.
+//! Tests of ids, of tables of chunks and of one layer, by values that the formats and arithmetic
+//! give: which files open, what is read of them and of their commits, where their ids are found,
+//! and what a check of one layer answers.
 //!
 //! The module `fixtures` has what several tests share.
 #![tactic(auto)]

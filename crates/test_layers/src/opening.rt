@@ -32,7 +32,7 @@ const THREE_OF_SHA256: &[u8; 8] = b"CGPH\x01\x02\x03\x00";
 /// A header, the entries of a table, the number of bytes 0 after it, and the refusal of that file.
 type Refused = (&'static [u8; 8], &'static [Entry], usize, FileError);
 
-/// Files of 1099 bytes, with three headers, the last of them with one byte more, and a SHA-256 file
+/// Files of 1099 bytes with three headers; the last of them with one byte more; and a SHA-256 file
 /// with a trailer of 20 bytes.
 const SHORT: &[Refused] = &[
     (THREE, ENTRIES, 1043, FileError::TooSmall),

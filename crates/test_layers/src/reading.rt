@@ -1,5 +1,6 @@
 //! What is read of a layer and of its commits, one by one and by iterators.
 
+use crate::building::compare_parents;
 use crate::fixtures::{Planned, commit_of, id_of, layer_of, plan_of};
 use gix_commitgraph::File;
 use gix_commitgraph::file::{BaseIds, Commits, Ids, Position};
@@ -84,13 +85,6 @@ fn compare_commit(rt: &impl Abort, file: &File, pos: u32, want: &Planned) {
     assert!(rt; commit.generation() == *generation && commit.committer_timestamp() == *time);
     assert!(rt; pos < file.num_commits());
     assert!(rt; file.id_at(Position(pos)) == commit.id());
-}
-
-/// Compares the parents of a commit with those that were planned.
-fn compare_parents(rt: &impl Abort, file: &File, pos: u32, want: &[u32]) {
-    let parents = commit_of(rt, file, pos).iter_parents();
-    let numbers = parents.map(|parent| parent.map(|parent| parent.0));
-    assert!(rt; numbers.eq(want.iter().map(|parent| Ok(*parent))));
 }
 
 /// Compares what is read of the layer as a whole.
