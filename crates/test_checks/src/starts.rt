@@ -10,6 +10,9 @@ use graph_vectors::planned_commit;
 use std::alloc::Global;
 use std::process::Abort;
 
+/// A number of layers.
+type LayerCount = u32;
+
 /// The id of the commit at a position.
 fn id_at(pos: u32) -> ObjectId {
     let mut id = [0x11; 20];
@@ -29,7 +32,7 @@ fn push(rt: &impl Abort, alloc: Global, chain: &mut Chain, pos: u32) {
 }
 
 /// The graph of so many such layers.
-fn one_commit_each(rt: &impl Abort, alloc: Global, layers: u32) -> Graph {
+fn one_commit_each(rt: &impl Abort, alloc: Global, layers: LayerCount) -> Graph {
     let mut chain = Chain::new(alloc);
     for pos in 0..layers {
         push(rt, alloc, &mut chain, pos);
@@ -50,14 +53,21 @@ fn comparisons(rt: &impl Abort, alloc: Global, graph: &Graph) -> Vec<u32> {
     counts
 }
 
-/// How many comparisons find each of 1, 2, 3, 4 and 5 layers. Each comparison leaves one of two
-/// halves, of which neither has more than one layer more than the other, until one layer is left.
-const HALVED: &[&[u32]] = &[&[0], &[1, 1], &[1, 2, 2], &[2, 2, 2, 2], &[2, 2, 2, 3, 3]];
+/// How many comparisons find each of so many layers, the fewest first. Each comparison leaves one
+/// of two halves, of which neither has more than one layer more than the other, until one layer is
+/// left.
+const HALVED: &[(LayerCount, &[u32])] = &[
+    (1, &[0]),
+    (2, &[1, 1]),
+    (3, &[1, 2, 2]),
+    (4, &[2, 2, 2, 2]),
+    (5, &[2, 2, 2, 3, 3]),
+];
 
 /// Compares how many comparisons find the layers of small graphs.
-fn compare_halves(rt: &impl Abort, alloc: Global, rows: &[&[u32]]) {
-    for want in rows {
-        let graph = one_commit_each(rt, alloc, want.len() as u32);
+fn compare_halves(rt: &impl Abort, alloc: Global, rows: &[(LayerCount, &[u32])]) {
+    for (layers, want) in rows {
+        let graph = one_commit_each(rt, alloc, *layers);
         assert!(rt; comparisons(rt, alloc, &graph).as_slice() == *want);
     }
 }
@@ -84,7 +94,8 @@ fn compare_check(rt: &impl Abort, alloc: Global, graph: &Graph) {
     assert!(rt; right(rt, alloc, graph).num_commits() == 256);
 }
 
-/// Compares how many comparisons find the layers of the graph of 256.
+/// Compares how many comparisons find the layers of the graph of 256: at most nine, and for some
+/// layer eight or more.
 fn compare_most(rt: &impl Abort, alloc: Global, graph: &Graph) {
     let counts = comparisons(rt, alloc, graph);
     assert!(rt; counts.len() == 256 && matches!(counts.last(), Some(8 | 9)));
