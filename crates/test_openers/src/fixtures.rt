@@ -63,7 +63,8 @@ pub type Layer = (
     &'static [Row<'static>],
 );
 
-/// The checksums of the layers below. They are those that Python's `hashlib` gives.
+/// The checksums of the three layers that follow, the lowest first. They are those that Python's
+/// `hashlib` gives.
 const LOWEST: &str = "d4acf176695c236bbec4d0a2f3ceab09f5436e96";
 
 const MIDDLE: &str = "efa7039cace7373e71879fba4d83bb0fd1b7225f";

@@ -36,7 +36,8 @@ fn compare_lines(rt: &impl Abort, rows: &[Text]) {
     }
 }
 
-/// Files of layers of one commit each, whose id repeats this byte. The layers are good as layer 0.
+/// Files of layers of one commit each, whose id repeats this byte. They have no bases, for which no
+/// opener asks.
 const LAYERS: &[(&str, u8)] = &[
     ("c/graph-aa.graph", 3),
     ("c/graph-.graph", 2),

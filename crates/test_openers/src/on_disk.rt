@@ -123,16 +123,19 @@ const READ_FILE: &str = "openers_test_read/file";
 
 const READ_MISSING: &str = "openers_test_read/missing";
 
-/// How many bytes are written to a file, each time in the place of those before.
+/// How many bytes are written to a file, each time in place of those before.
 const LENGTHS: &[usize] = &[0, 1, 100_000, 3];
 
-/// Compares what a folder on disk has. No read fails.
+/// Compares what a folder on disk has. The file is written anew each time, at last with as many
+/// bytes as before, but others. No read fails.
 fn compare_disk<R: Files + Abort, T: Folder>(rt: &R, alloc: Global, disk: &mut T) {
     for len in LENGTHS {
         let bytes = numbers(rt, alloc, *len);
         write(rt, READ_FILE, &bytes);
         compare_read(rt, alloc, disk, READ_FILE, &Ok(&bytes), 0);
     }
+    write(rt, READ_FILE, b"new");
+    compare_read(rt, alloc, disk, READ_FILE, &Ok(b"new"), 0);
     compare_standing(rt, alloc, disk, READ_FILE, Standing::File);
     compare_standing(rt, alloc, disk, READ, Standing::Dir);
     compare_standing(rt, alloc, disk, READ_MISSING, Standing::Nothing);
