@@ -5,6 +5,7 @@ use crate::asking::{Asked, Told, expect};
 use crate::conditions::refusal;
 use crate::folders::{built, owned};
 use crate::listing::root_on_a_base;
+use crate::table::offset;
 use gix_chunk_core::ChunkError;
 use gix_commitgraph::file::commit::ParentError;
 use gix_commitgraph::file::{Commit, Position};
@@ -14,6 +15,7 @@ use gix_hash_core::Kind;
 use graph_folder::folder::Memory;
 use graph_vectors::{DIAMOND, OCTOPUS, reseal};
 use std::alloc::Global;
+use std::ops::Range;
 use std::process::Abort;
 
 /// The files that are damaged.
@@ -102,11 +104,23 @@ const OF_ON_A_BASE: &[Fronts] = &[
     (1204, 1235, FileError::Trailer),
 ];
 
-/// A file, its size, and how its fronts are refused.
-const FRONTS: &[(Built, usize, &[Fronts])] = &[
-    (Built::Diamond, 1324, OF_DIAMOND),
-    (Built::Octopus, 1344, OF_OCTOPUS),
-    (Built::OnABase, 1236, OF_ON_A_BASE),
+/// A file, the offsets of its table, its size, and how its fronts are refused.
+type Whole = (Built, &'static [usize], usize, &'static [Fronts]);
+
+const WHOLE: &[Whole] = &[
+    (Built::Diamond, &[56, 1080, 1160, 1304], 1324, OF_DIAMOND),
+    (
+        Built::Octopus,
+        &[68, 1092, 1172, 1316, 1324],
+        1344,
+        OF_OCTOPUS,
+    ),
+    (
+        Built::OnABase,
+        &[68, 1092, 1124, 1172, 1204],
+        1236,
+        OF_ON_A_BASE,
+    ),
 ];
 
 /// Asserts that a front is refused so, by opening and by the conditions one after another.
@@ -128,11 +142,19 @@ fn compare_fronts(rt: &impl Abort, alloc: Global, bytes: &[u8], rows: &[Fronts])
     tried
 }
 
+/// Asserts where the chunks of a file begin, and the last one ends.
+fn compare_offsets(rt: &impl Abort, bytes: &[u8], offsets: &[usize]) {
+    for (entry, want) in offsets.iter().enumerate() {
+        assert!(rt; offset(bytes, entry) == *want);
+    }
+}
+
 /// Asserts how each front of some files is refused, and that the whole files open.
-fn compare_all_fronts(rt: &impl Abort, alloc: Global, rows: &[(Built, usize, &[Fronts])]) {
-    for (file, size, fronts) in rows {
+fn compare_all_fronts(rt: &impl Abort, alloc: Global, rows: &[Whole]) {
+    for (file, offsets, size, fronts) in rows {
         let bytes = bytes_of(rt, alloc, *file);
         assert!(rt; bytes.len() == *size);
+        compare_offsets(rt, &bytes, offsets);
         assert!(rt; compare_fronts(rt, alloc, &bytes, fronts) == *size);
         assert!(rt; open(rt, alloc, &bytes).is_ok() && refusal(&bytes).is_none());
     }
@@ -140,7 +162,7 @@ fn compare_all_fronts(rt: &impl Abort, alloc: Global, rows: &[(Built, usize, &[F
 
 #[test]
 fn each_front_of_a_file_is_refused(rt: HostRuntime) {
-    compare_all_fronts(&rt, rt.alloc(), FRONTS);
+    compare_all_fronts(&rt, rt.alloc(), WHOLE);
 }
 
 /// Asserts that a search for each id of a layer finds it.
@@ -185,18 +207,18 @@ const WITHOUT_EDGES: Told<'static> = (
 /// list has another id, so that it is none.
 fn compare_opened(rt: &impl Abort, alloc: Global, bytes: &[u8], layer: File) {
     compare_lookups(rt, &layer);
-    expect(
-        rt,
-        alloc,
-        &mut Memory::new(alloc),
-        Asked::List(bytes),
-        WITHOUT_EDGES,
-    );
+    let mut folder = Memory::new(alloc);
+    expect(rt, alloc, &mut folder, Asked::List(bytes), WITHOUT_EDGES);
     assert!(rt; check(rt, alloc, layer).err().as_ref() == Some(&WRONG_CHECKSUM));
-    let mut sealed = Vec::from_slice(alloc, bytes).expect(rt, "memory");
-    assert!(rt; sealed.len() >= 20);
-    reseal(Kind::Sha1, &mut sealed);
-    let layer = open(rt, alloc, &sealed).ok().expect(rt, "a layer");
+}
+
+/// Asserts what the check of that file finds, where its checksum is right.
+fn compare_sealed(rt: &impl Abort, alloc: Global) {
+    let mut bytes = bytes_of(rt, alloc, Built::Octopus);
+    set(rt, &mut bytes, 44, b'X');
+    assert!(rt; bytes.len() >= 20);
+    reseal(Kind::Sha1, &mut bytes);
+    let layer = open(rt, alloc, &bytes).ok().expect(rt, "a layer");
     assert!(rt; check(rt, alloc, layer).err().as_ref() == Some(&NO_EDGE_LIST));
 }
 
@@ -237,28 +259,42 @@ fn try_values(rt: &impl Abort, alloc: Global, bytes: &mut Vec<u8>, place: usize)
     opened
 }
 
-/// A file, how many bytes its header and its table have, and how many files open with one of these
-/// bytes changed: those with another value of one of the four bytes of the extra edge list's id. No
-/// file needs that list, and each needs all else of header and table as it is.
-const CHANGED: &[(Built, usize, u32)] = &[
-    (Built::Diamond, 56, 0),
-    (Built::Octopus, 68, 4 * 255),
-    (Built::OnABase, 68, 0),
-];
-
-/// Tries each other value of each byte of header and table.
-fn compare_changed(rt: &impl Abort, alloc: Global, rows: &[(Built, usize, u32)]) {
-    for (file, len, want) in rows {
-        let mut bytes = bytes_of(rt, alloc, *file);
-        let mut opened = 0u32;
-        for place in 0..*len {
-            opened = opened.saturating_add(try_values(rt, alloc, &mut bytes, place));
-        }
-        assert!(rt; opened == *want);
+/// Tries each other value of each byte from a place on, up to another. How many files opened is
+/// answered.
+fn try_places(rt: &impl Abort, alloc: Global, file: Built, places: Range<usize>) -> u32 {
+    let mut bytes = bytes_of(rt, alloc, file);
+    let mut opened = 0u32;
+    for place in places {
+        opened = opened.saturating_add(try_values(rt, alloc, &mut bytes, place));
     }
+    opened
+}
+
+/// No other value of a byte of header or table opens, but in the id of the extra edge list: no file
+/// needs that list. It is the fourth entry of the table, so it has the bytes 44 to 47.
+#[test]
+fn a_changed_table_is_refused_by_the_first_condition(rt: HostRuntime) {
+    assert!(rt; try_places(&rt, rt.alloc(), Built::Diamond, 0..56) == 0);
 }
 
 #[test]
-fn a_changed_header_or_table_is_refused_by_the_first_condition(rt: HostRuntime) {
-    compare_changed(&rt, rt.alloc(), CHANGED);
+fn a_changed_table_of_a_merge_is_refused_by_the_first_condition(rt: HostRuntime) {
+    assert!(rt; try_places(&rt, rt.alloc(), Built::Octopus, 0..44) == 0);
+    assert!(rt; try_places(&rt, rt.alloc(), Built::Octopus, 48..68) == 0);
+}
+
+#[test]
+fn a_changed_table_with_a_base_is_refused_by_the_first_condition(rt: HostRuntime) {
+    assert!(rt; try_places(&rt, rt.alloc(), Built::OnABase, 0..68) == 0);
+}
+
+#[test]
+fn a_merge_opens_without_its_extra_edge_list(rt: HostRuntime) {
+    assert!(rt; try_places(&rt, rt.alloc(), Built::Octopus, 44..46) == 2 * 255);
+    compare_sealed(&rt, rt.alloc());
+}
+
+#[test]
+fn a_merge_opens_with_any_id_in_place_of_the_list(rt: HostRuntime) {
+    assert!(rt; try_places(&rt, rt.alloc(), Built::Octopus, 46..48) == 2 * 255);
 }

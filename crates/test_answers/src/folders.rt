@@ -1,7 +1,7 @@
 //! Files and folders in memory. Where an allocation fails or no file can hold what is wanted, the
 //! process aborts.
 
-use gix_hash_core::{Kind, ObjectId, digest};
+use gix_hash_core::{ObjectId, oid};
 use graph_folder::folder::Memory;
 use graph_vectors::{Row, file_of_rows};
 use std::alloc::Global;
@@ -36,9 +36,11 @@ pub fn built(rt: &impl Abort, alloc: Global, bases: &[ObjectId], rows: &[Row<'_>
     file_of_rows(alloc, bases, rows).expect(rt, "a file")
 }
 
-/// The digest of all bytes of a SHA-1 file before its checksum.
-fn checksum_of(bytes: &[u8]) -> ObjectId {
-    digest(Kind::Sha1, &bytes[..bytes.len().saturating_sub(20)])
+/// The checksum of a SHA-1 file: its last 20 bytes.
+fn checksum_of(rt: &impl Abort, bytes: &[u8]) -> ObjectId {
+    let checksum = bytes.get(bytes.len().saturating_sub(20)..);
+    let checksum = oid::try_from_bytes(checksum.expect(rt, "a checksum"));
+    checksum.expect(rt, "an id").to_owned()
 }
 
 /// Puts a file into a folder in memory.
@@ -69,7 +71,7 @@ pub fn put_layer(
     bytes: Vec<u8>,
     lines: &mut String,
 ) -> ObjectId {
-    let checksum = checksum_of(&bytes);
+    let checksum = checksum_of(rt, &bytes);
     let text = text_of(rt, alloc, checksum);
     let path = joined(rt, alloc, &["g/graph-", &text, ".graph"]);
     put(rt, alloc, memory, &path, bytes);

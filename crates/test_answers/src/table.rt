@@ -45,7 +45,7 @@ fn id(bytes: &[u8], entry: usize) -> [u8; 4] {
 }
 
 /// The offset of an entry.
-fn offset(bytes: &[u8], entry: usize) -> usize {
+pub fn offset(bytes: &[u8], entry: usize) -> usize {
     number(bytes, place(entry).saturating_add(4), 8)
 }
 
