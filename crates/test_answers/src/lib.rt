@@ -1,8 +1,8 @@
-//! Tests of what the commands of `graphtool` answer, each by its function: texts and statuses, reads
-//! and writes that fail, and files that are damaged byte by byte.
+//! Tests of what the commands of `graphtool` answer, each by its function: texts and statuses,
+//! reads and writes that fail, and files that are damaged byte by byte.
 //!
-//! The module `asking` has the commands and `folders` what they are asked about. `conditions` tries
-//! what refuses the bytes of a file, one condition after another.
+//! The module `asking` has the commands, and `folders` what they are asked about. `conditions`
+//! tries what refuses the bytes of a file, one condition after another.
 #![tactic(auto)]
 
 #[cfg(test)]
