@@ -86,6 +86,24 @@ def missing(texts):
                 yield from ("%s has %s" % (path, name) for name in missing_in(path, texts[path], wanted, uses, traits))
 
 
+def functions(texts):
+    """The public functions and methods that test_surface has to use: its module, and the name, behind that of a type if it is a
+    method.
+    """
+    for module, sources in SOURCES.items():
+        for source, wanted in sources.items():
+            for path, text in texts.items():
+                if path.startswith("crates/" + source) and not laws.FILE.fullmatch(path):
+                    yield from ((module, name) for name in functions_in(text, wanted))
+
+
+def functions_in(text, wanted):
+    """Those of a source: of the wanted types alone, or all where that is None."""
+    for owner, name, pattern in items(text):
+        if (wanted is None or owner in wanted) and owner not in PRIVATE and pattern.endswith("\\("):
+            yield name
+
+
 def used_traits(bounds, uses):
     """The traits that each name within the calls of functions of the module bounds has to have, by these functions."""
     asked = {function: set(re.findall(r"[A-Z]\w+", types)) for function, types in BOUND.findall(bounds)}
