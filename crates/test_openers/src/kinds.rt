@@ -117,13 +117,15 @@ const NONE: &[Kind] = &[
     ),
 ];
 
+/// The openers, in the order of the answers.
+const OPENERS: [Opener; 4] = [Opener::Any, Opener::File, Opener::Info, Opener::Chain];
+
 /// Compares what the openers answer at each of some paths.
 fn compare_kinds(rt: &impl Abort, alloc: Global, memory: &mut Memory, rows: &[Kind]) {
-    for (path, [any, file, info, chain]) in rows {
-        assert!(rt; answer(alloc, memory, Opener::Any, path) == *any);
-        assert!(rt; answer(alloc, memory, Opener::File, path) == *file);
-        assert!(rt; answer(alloc, memory, Opener::Info, path) == *info);
-        assert!(rt; answer(alloc, memory, Opener::Chain, path) == *chain);
+    for (path, answers) in rows {
+        for (opener, want) in OPENERS.iter().zip(answers.as_slice()) {
+            assert!(rt; answer(alloc, memory, *opener, path) == *want);
+        }
     }
 }
 
