@@ -35,9 +35,41 @@ import (
 // Nowhere is no position.
 const Nowhere = uint32(C.CG_NOWHERE)
 
-// Graph is a commit-graph that its check has found right. Positions count from 0 over all layers.
+// Graph is a commit-graph that its check has found right. Positions count from 0 over all layers. A Graph is used by its pointer:
+// `go vet` tells of a copy. A copy is the same graph, and is closed with it.
 type Graph struct {
+	_    noCopy
+	open *openGraph
+}
+
+// openGraph is what C has of a graph, until it is closed.
+type openGraph struct {
 	raw C.cg_graph
+}
+
+// noCopy lets `go vet` tell where a struct that holds it is copied, as it tells of a lock.
+type noCopy struct{}
+
+func (*noCopy) Lock()   {}
+func (*noCopy) Unlock() {}
+
+// graphOf is the graph of what C has opened, which is closed at last when nothing leads to it any more.
+func graphOf(open *openGraph) *Graph {
+	runtime.SetFinalizer(open, (*openGraph).close)
+	return &Graph{open: open}
+}
+
+func (o *openGraph) close() {
+	C.cg_close(o.raw)
+	o.raw = C.cg_graph{}
+}
+
+// raw is what C has of the graph, which is closed where none was opened.
+func (g *Graph) raw() C.cg_graph {
+	if g.open == nil {
+		return C.cg_graph{}
+	}
+	return g.open.raw
 }
 
 // Error says why a graph is refused, or a question has no answer.
@@ -252,11 +284,11 @@ func otherVersion(found uint32) error {
 func (p *paths) checked(ctx context.Context, raw C.cg_graph, distinctIDs bool, visits uint64) (*Graph, error) {
 	var verdict C.cg_verdict
 	var counts [1]C.cg_count
-	graph := &Graph{}
+	checked := &openGraph{}
 	err := within(ctx, visits, func(limit C.cg_limit) C.uint32_t {
 		given := raw
 		raw = C.cg_graph{}
-		return C.cg_check_within(given, C.bool(distinctIDs), limit, &verdict, &counts[0], 0, &graph.raw)
+		return C.cg_check_within(given, C.bool(distinctIDs), limit, &verdict, &counts[0], 0, &checked.raw)
 	})
 	C.cg_close(raw)
 	var told *Error
@@ -266,8 +298,7 @@ func (p *paths) checked(ctx context.Context, raw C.cg_graph, distinctIDs bool, v
 	if err != nil {
 		return nil, err
 	}
-	runtime.SetFinalizer(graph, (*Graph).Close)
-	return graph, nil
+	return graphOf(checked), nil
 }
 
 // within makes a call that stops where it would have to visit more commits, or where the context is done.
@@ -542,11 +573,10 @@ func OpenLayers(layers []Layer, distinctIDs bool) (*Graph, error) {
 	}
 	var verdict C.cg_verdict
 	var counts [1]C.cg_count
-	graph := &Graph{}
-	told := C.cg_open_checked(&files[0], C.size_t(len(layers)), C.bool(distinctIDs), &verdict, &counts[0], 0, &graph.raw)
+	opened := &openGraph{}
+	told := C.cg_open_checked(&files[0], C.size_t(len(layers)), C.bool(distinctIDs), &verdict, &counts[0], 0, &opened.raw)
 	if told.code == C.CG_OK {
-		runtime.SetFinalizer(graph, (*Graph).Close)
-		return graph, nil
+		return graphOf(opened), nil
 	}
 	paths := make([]string, len(layers))
 	for number, layer := range layers {
@@ -555,29 +585,30 @@ func OpenLayers(layers []Layer, distinctIDs bool) (*Graph, error) {
 	return nil, refused(uint32(told.code), &verdict, files[:len(layers)], paths)
 }
 
-// Close frees the graph, which answers nothing after that.
+// Close frees the graph, which answers nothing after that. No other goroutine may ask it meanwhile.
 func (g *Graph) Close() {
-	runtime.SetFinalizer(g, nil)
-	C.cg_close(g.raw)
-	g.raw = C.cg_graph{}
+	if g.open != nil {
+		runtime.SetFinalizer(g.open, nil)
+		g.open.close()
+	}
 }
 
 // Len is the number of commits.
 func (g *Graph) Len() uint32 {
 	defer runtime.KeepAlive(g)
-	return uint32(C.cg_num_commits(g.raw))
+	return uint32(C.cg_num_commits(g.raw()))
 }
 
 // Lookup is the position of the commit with an id, or Nowhere; in a graph that is closed always Nowhere.
 func (g *Graph) Lookup(id []byte) uint32 {
 	defer runtime.KeepAlive(g)
-	return uint32(C.cg_lookup(g.raw, at(id), C.size_t(len(id))))
+	return uint32(C.cg_lookup(g.raw(), at(id), C.size_t(len(id))))
 }
 
 // LookupAll are the positions of the commits with these ids, as Lookup finds each.
 func (g *Graph) LookupAll(ids [][]byte) []uint32 {
 	defer runtime.KeepAlive(g)
-	size := int(C.cg_id_len(g.raw))
+	size := int(C.cg_id_len(g.raw()))
 	all, out := make([]byte, 0, size*len(ids)), make([]uint32, len(ids)+1)
 	for _, id := range ids {
 		if len(id) != size {
@@ -585,7 +616,7 @@ func (g *Graph) LookupAll(ids [][]byte) []uint32 {
 		}
 		all = append(all, id...)
 	}
-	C.cg_lookup_all(g.raw, at(all), C.size_t(len(all)), C.size_t(size), (*C.uint32_t)(&out[0]), C.size_t(len(ids)))
+	C.cg_lookup_all(g.raw(), at(all), C.size_t(len(all)), C.size_t(size), (*C.uint32_t)(&out[0]), C.size_t(len(ids)))
 	for number, id := range ids {
 		if size == 0 || len(id) != size {
 			out[number] = Nowhere
@@ -598,16 +629,16 @@ func (g *Graph) LookupAll(ids [][]byte) []uint32 {
 func (g *Graph) ID(position uint32) ([]byte, error) {
 	defer runtime.KeepAlive(g)
 	id := make([]byte, 32)
-	length := C.cg_id_at(g.raw, C.uint32_t(position), at(id), C.cg_id_len(g.raw))
+	length := C.cg_id_at(g.raw(), C.uint32_t(position), at(id), C.cg_id_len(g.raw()))
 	return g.written(id, length, position)
 }
 
 // IDs are the ids of the commits at these positions.
 func (g *Graph) IDs(positions []uint32) ([][]byte, error) {
 	defer runtime.KeepAlive(g)
-	size, asked := int(C.cg_id_len(g.raw)), append(append([]uint32{}, positions...), 0)
+	size, asked := int(C.cg_id_len(g.raw())), append(append([]uint32{}, positions...), 0)
 	all, ids := make([]byte, size*len(positions)), make([][]byte, len(positions))
-	told := C.cg_ids_at(g.raw, (*C.uint32_t)(&asked[0]), C.size_t(len(positions)), at(all), C.size_t(len(all)))
+	told := C.cg_ids_at(g.raw(), (*C.uint32_t)(&asked[0]), C.size_t(len(positions)), at(all), C.size_t(len(all)))
 	if told.code != C.CG_OK {
 		return nil, &Error{Code: uint32(told.code), Number: uint64(told.answered), isNumbered: told.code == C.CG_NO_SUCH_POSITION}
 	}
@@ -621,7 +652,7 @@ func (g *Graph) IDs(positions []uint32) ([][]byte, error) {
 func (g *Graph) Tree(position uint32) ([]byte, error) {
 	defer runtime.KeepAlive(g)
 	id := make([]byte, 32)
-	length := C.cg_tree_at(g.raw, C.uint32_t(position), at(id), C.cg_id_len(g.raw))
+	length := C.cg_tree_at(g.raw(), C.uint32_t(position), at(id), C.cg_id_len(g.raw()))
 	return g.written(id, length, position)
 }
 
@@ -634,7 +665,7 @@ func (g *Graph) written(id []byte, length C.size_t, position uint32) ([]byte, er
 
 // noCommit says why there is no commit at a position: the graph is closed, or has too few.
 func (g *Graph) noCommit(position uint32) error {
-	if C.cg_id_len(g.raw) == 0 {
+	if C.cg_id_len(g.raw()) == 0 {
 		return &Error{Code: C.CG_CLOSED_GRAPH}
 	}
 	return &Error{Code: C.CG_NO_SUCH_POSITION, Position: position}
@@ -651,7 +682,7 @@ type Record struct {
 func (g *Graph) Record(position uint32) (Record, error) {
 	defer runtime.KeepAlive(g)
 	var told C.cg_commit
-	if !C.cg_commit_at(g.raw, C.uint32_t(position), &told) {
+	if !C.cg_commit_at(g.raw(), C.uint32_t(position), &told) {
 		return Record{}, g.noCommit(position)
 	}
 	return Record{uint64(told.time), uint32(told.generation)}, nil
@@ -662,7 +693,7 @@ func (g *Graph) Parents(position uint32) ([]uint32, error) {
 	defer runtime.KeepAlive(g)
 	for room := 2; ; {
 		out := make([]uint32, room)
-		told := C.cg_parents(g.raw, C.uint32_t(position), (*C.uint32_t)(&out[0]), C.size_t(room))
+		told := C.cg_parents(g.raw(), C.uint32_t(position), (*C.uint32_t)(&out[0]), C.size_t(room))
 		if told.code != C.CG_OK {
 			return nil, &Error{Code: uint32(told.code), Position: position}
 		}
@@ -683,7 +714,7 @@ func (g *Graph) IsAncestorWithin(ctx context.Context, ancestor, descendant uint3
 	defer runtime.KeepAlive(g)
 	var told C.cg_leads
 	err := within(ctx, visits, func(limit C.cg_limit) C.uint32_t {
-		told = C.cg_is_ancestor_within(g.raw, C.uint32_t(ancestor), C.uint32_t(descendant), limit)
+		told = C.cg_is_ancestor_within(g.raw(), C.uint32_t(ancestor), C.uint32_t(descendant), limit)
 		return told.code
 	})
 	return bool(told.found), g.positioned(err, ancestor, descendant)
@@ -726,7 +757,7 @@ func (g *Graph) CompareWithin(ctx context.Context, visits uint64, first uint32, 
 		out := make([]uint32, room)
 		var told C.cg_bases
 		err := within(ctx, visits, func(limit C.cg_limit) C.uint32_t {
-			told = C.cg_merge_bases_within(g.raw, C.uint32_t(first), (*C.uint32_t)(&asked[0]), C.size_t(len(others)), limit,
+			told = C.cg_merge_bases_within(g.raw(), C.uint32_t(first), (*C.uint32_t)(&asked[0]), C.size_t(len(others)), limit,
 				(*C.uint32_t)(&out[0]), C.size_t(room))
 			return told.code
 		})
@@ -750,7 +781,7 @@ func (g *Graph) CompareAll(pairs [][2]uint32) ([]Comparison, error) {
 	count := C.size_t(len(pairs))
 	for room := len(pairs) + 1; ; {
 		out := make([]uint32, room)
-		told := C.cg_merge_bases_of(g.raw, &asked[0], count, &answers[0], count, (*C.uint32_t)(&out[0]), C.size_t(room))
+		told := C.cg_merge_bases_of(g.raw(), &asked[0], count, &answers[0], count, (*C.uint32_t)(&out[0]), C.size_t(room))
 		if told.code != C.CG_OK {
 			return nil, &Error{Code: uint32(told.code), Number: uint64(told.answered), isNumbered: told.code == C.CG_NO_SUCH_POSITION}
 		}
@@ -788,10 +819,10 @@ func WriteFile(commits []NewCommit) ([]byte, error) {
 // WriteLayer makes the bytes of the file of a layer with these commits, in any order, on top of this graph: see WriteFile.
 func (g *Graph) WriteLayer(commits []NewCommit) ([]byte, error) {
 	defer runtime.KeepAlive(g)
-	if !g.raw.opened {
+	if !g.raw().opened {
 		return nil, &Error{Code: C.CG_CLOSED_GRAPH}
 	}
-	return write(g.raw, commits)
+	return write(g.raw(), commits)
 }
 
 func write(below C.cg_graph, commits []NewCommit) ([]byte, error) {

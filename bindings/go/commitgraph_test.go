@@ -586,7 +586,10 @@ func TestRefusals(t *testing.T) {
 	if position := graph.Lookup(nil); position != Nowhere {
 		t.Error(position)
 	}
+	again := &Graph{open: graph.open}
+	again.Close()
 	graph.Close()
+	(&Graph{}).Close()
 	_, ofID = graph.ID(0)
 	_, ofRecord := graph.Record(0)
 	for _, err := range []error{ofID, ofRecord} {

@@ -9,6 +9,9 @@ NeitherError tells why neither the file nor the chain of a folder opens. A file 
 `ids` and `compare_all` ask about many commits in one call; `visits` and `flag` stop a search or a check before its end. `write_file`
 and `write_layer` make the bytes that Git writes of commits.
 
+Threads may share a graph: any number of them may ask it at a time, and a call that has begun comes to its end also where another
+thread closes the graph. A graph is not copied or pickled.
+
 It calls libcommitgraph.so.0, which is looked for in the folder that COMMITGRAPH_LIB names; where that is not set, in this clone, where
 `scripts/library` makes it, and then where the system looks. The calls are proved, this module is not: test_commitgraph.py tests it.
 """
@@ -25,7 +28,7 @@ import string
 from collections.abc import Iterator, Sequence
 from ctypes import POINTER, c_bool, c_size_t, c_uint8, c_uint32, c_uint64, c_void_p
 from itertools import islice
-from typing import NamedTuple
+from typing import NamedTuple, NoReturn
 
 VERSION = 100
 """The version of the library that this module is for."""
@@ -549,11 +552,25 @@ class NewCommit(NamedTuple):
     """Seconds since 1970-01-01 00:00:00 UTC."""
 
 
+class _OpenGraph(_Graph):
+    """A graph that is open for C, until nothing refers to it any more: a call that runs does, since it was handed this."""
+
+    def __del__(self) -> None:
+        _library.cg_close(self)
+
+
+class _NewFlag(_Flag):
+    """A flag that is there for C as long as something refers to it."""
+
+    def __del__(self) -> None:
+        _library.cg_flag_free(self)
+
+
 class Flag:
     """A flag by which one thread stops what another one asks. It is never lowered."""
 
     def __init__(self) -> None:
-        self._flag = _Flag(None, False)
+        self._flag = _NewFlag(None, False)
         code = _library.cg_flag_new(self._flag)
         if code:
             raise Error(code)
@@ -562,8 +579,8 @@ class Flag:
         """Raises the flag, for good: calls that look at it stop, and so do later ones."""
         _library.cg_flag_raise(self._flag)
 
-    def __del__(self) -> None:
-        _library.cg_flag_free(self._flag)
+    def __reduce__(self) -> NoReturn:
+        raise TypeError("a Flag cannot be copied or pickled; what to do: hand the flag itself to each thread")
 
 
 def _limit(visits: int | None, flag: Flag | None) -> _Limit:
@@ -572,12 +589,13 @@ def _limit(visits: int | None, flag: Flag | None) -> _Limit:
 
 
 class Graph:
-    """A commit-graph that its check has found right. Positions count from 0 over all layers."""
+    """A commit-graph that its check has found right. Positions count from 0 over all layers. Any number of threads may ask it at a
+    time, and any of them may close it."""
 
     def __init__(self, layers: Sequence[tuple[bytes, str]], distinct_ids: bool = False) -> None:
         """The graph of layers, each given by its bytes and the path of its file, the lowest first; with `distinct_ids` only
         where no id stands in two layers."""
-        self._graph = _Graph(None, False)
+        self._graph = _OpenGraph(None, False)
         files, _kept = _files(layers)
         verdict, counts = _Verdict(), (c_uint32 * 2)()
         error = _library.cg_open_checked(files, len(layers), distinct_ids, verdict, counts, 0, self._graph)
@@ -588,7 +606,7 @@ class Graph:
     def _checked(cls, opened: _Graph, distinct_ids: bool, limit: _Limit, layers: Sequence[tuple[bytes, str]]) -> "Graph":
         """The graph that was opened of these layers, which is checked, and closed where it is refused."""
         graph = cls.__new__(cls)
-        graph._graph = _Graph(None, False)
+        graph._graph = _OpenGraph(None, False)
         verdict, counts = _Verdict(), (c_uint32 * 2)()
         code = _library.cg_check_within(opened, distinct_ids, limit, verdict, counts, 0, graph._graph)
         if code:
@@ -596,9 +614,9 @@ class Graph:
         return graph
 
     def close(self) -> None:
-        """Frees the graph, which answers nothing after that."""
-        graph, self._graph = self._graph, _Graph(None, False)
-        _library.cg_close(graph)
+        """Closes the graph, which answers nothing after that. Calls that other threads have begun come to their end, and with the
+        last of them its memory goes."""
+        self._graph = _OpenGraph(None, False)
 
     def __enter__(self) -> "Graph":
         return self
@@ -606,8 +624,8 @@ class Graph:
     def __exit__(self, *_: object) -> None:
         self.close()
 
-    def __del__(self) -> None:
-        self.close()
+    def __reduce__(self) -> NoReturn:
+        raise TypeError("a Graph cannot be copied or pickled; what to do: use the graph itself, or open it once more")
 
     def __len__(self) -> int:
         return int(_library.cg_num_commits(self._graph))
@@ -615,18 +633,19 @@ class Graph:
     def lookup(self, commit: bytes | str) -> int | None:
         """The position of the commit with an id, which is given as bytes or in hexadecimal. ValueError is raised where a text is no
         id: it has 40 or 64 digits."""
-        name = _id_of(commit) if isinstance(commit, str) else commit
-        if not self._graph.opened:
+        name, graph = _id_of(commit) if isinstance(commit, str) else commit, self._graph
+        if not graph.opened:
             raise Error(Code.CLOSED_GRAPH)
-        return _found(_library.cg_lookup(self._graph, _at(name), len(name)))
+        return _found(_library.cg_lookup(graph, _at(name), len(name)))
 
     def lookup_all(self, commits: Sequence[bytes]) -> list[int | None]:
         """The positions of the commits with these ids, as `lookup` finds each."""
-        size = _library.cg_id_len(self._graph)
+        graph = self._graph
+        size = _library.cg_id_len(graph)
         if any(len(commit) != size for commit in commits):
             return [self.lookup(commit) for commit in commits]
         ids, out = b"".join(commits), (c_uint32 * (len(commits) + 1))()
-        _library.cg_lookup_all(self._graph, _at(ids), len(ids), size, out, len(commits))
+        _library.cg_lookup_all(graph, _at(ids), len(ids), size, out, len(commits))
         return [_found(position) for position in out[: len(commits)]]
 
     def id(self, position: int) -> bytes:
@@ -635,9 +654,10 @@ class Graph:
 
     def ids(self, positions: Sequence[int]) -> list[bytes]:
         """The ids of the commits at these positions."""
-        size, count = _library.cg_id_len(self._graph), len(positions)
+        graph, count = self._graph, len(positions)
+        size = _library.cg_id_len(graph)
         out = (c_uint8 * (size * count + 1))()
-        told = _library.cg_ids_at(self._graph, _places(positions), count, out, size * count)
+        told = _library.cg_ids_at(graph, _places(positions), count, out, size * count)
         if told.code:
             raise Error(told.code, number=told.answered)
         return [bytes(out[start : start + size]) for start in range(0, size * count, size or 1)]
@@ -648,17 +668,17 @@ class Graph:
 
     def record(self, position: int) -> Record:
         """What its record says."""
-        commit = _Commit()
-        if not _library.cg_commit_at(self._graph, _place(position), commit):
-            raise self._none_at(position)
+        graph, commit = self._graph, _Commit()
+        if not _library.cg_commit_at(graph, _place(position), commit):
+            raise _none_at(graph, position)
         return Record(commit.time, commit.generation)
 
     def parents(self, position: int) -> list[int]:
         """The positions of its parents, the first parent first."""
-        room = 2
+        graph, room = self._graph, 2
         while True:
             out = (c_uint32 * room)()
-            told = _library.cg_parents(self._graph, _place(position), out, room)
+            told = _library.cg_parents(graph, _place(position), out, room)
             if told.code:
                 raise Error(told.code, position=position)
             if told.count <= room:
@@ -668,9 +688,10 @@ class Graph:
     def is_ancestor(self, ancestor: int, descendant: int, visits: int | None = None, flag: Flag | None = None) -> bool:
         """Whether a commit is an ancestor of another, in the order of `git merge-base --is-ancestor`. It is an error with
         `Code.STOPPED` where more commits than `visits` would have to be visited, or the flag was raised."""
-        told = _library.cg_is_ancestor_within(self._graph, _place(ancestor), _place(descendant), _limit(visits, flag))
+        graph = self._graph
+        told = _library.cg_is_ancestor_within(graph, _place(ancestor), _place(descendant), _limit(visits, flag))
         if told.code:
-            raise self._unanswered(told.code, ancestor, descendant)
+            raise _unanswered(graph, told.code, ancestor, descendant)
         return bool(told.found)
 
     def compare(
@@ -678,12 +699,12 @@ class Graph:
     ) -> Comparison:
         """The merge bases that `git merge-base --all FIRST OTHERS..` names, and how far the commits have come apart. It is stopped as
         `is_ancestor` is."""
-        asked, room, limit = _places(others), 64, _limit(visits, flag)
+        graph, asked, room, limit = self._graph, _places(others), 64, _limit(visits, flag)
         while True:
             out = (c_uint32 * room)()
-            told = _library.cg_merge_bases_within(self._graph, _place(first), asked, len(others), limit, out, room)
+            told = _library.cg_merge_bases_within(graph, _place(first), asked, len(others), limit, out, room)
             if told.code:
-                raise self._unanswered(told.code, first, *others)
+                raise _unanswered(graph, told.code, first, *others)
             if told.length <= room:
                 return Comparison(out[: told.length], told.ahead, told.behind)
             room = told.length
@@ -691,10 +712,10 @@ class Graph:
     def compare_all(self, pairs: Sequence[tuple[int, int]]) -> list[Comparison]:
         """The comparison of the commits of each pair, as `compare` makes it of one."""
         asked, room = (_Two * (len(pairs) + 1))(*(_Two(_place(one), _place(two)) for one, two in pairs)), len(pairs) + 1
-        answers = (_Bases * (len(pairs) + 1))()
+        graph, answers = self._graph, (_Bases * (len(pairs) + 1))()
         while True:
             out = (c_uint32 * room)()
-            told = _library.cg_merge_bases_of(self._graph, asked, len(pairs), answers, len(pairs), out, room)
+            told = _library.cg_merge_bases_of(graph, asked, len(pairs), answers, len(pairs), out, room)
             if told.code:
                 raise Error(told.code, number=told.answered)
             if told.length <= room:
@@ -704,25 +725,29 @@ class Graph:
 
     def write_layer(self, commits: Sequence[NewCommit]) -> bytes:
         """The bytes of the file of a layer with these commits, in any order, on top of this graph: see `write_file`."""
-        if not self._graph.opened:
+        graph = self._graph
+        if not graph.opened:
             raise Error(Code.CLOSED_GRAPH)
-        return _written_file(self._graph, commits)
+        return _written_file(graph, commits)
 
     def _written(self, call: "ctypes._FuncPointer", position: int) -> bytes:
-        size = _library.cg_id_len(self._graph)
+        graph = self._graph
+        size = _library.cg_id_len(graph)
         out = (c_uint8 * (size + 1))()
-        if call(self._graph, _place(position), out, size) == 0:
-            raise self._none_at(position)
+        if call(graph, _place(position), out, size) == 0:
+            raise _none_at(graph, position)
         return bytes(out[:size])
 
-    def _unanswered(self, code: int, *positions: int) -> Error:
-        """Why a question about the commits at these positions has no answer. Where the graph has no such position, it is the first."""
-        count = _library.cg_num_commits(self._graph)
-        return Error(code, position=next((position for position in positions if _place(position) >= count), 0))
 
-    def _none_at(self, position: int) -> Error:
-        """Why a call that tells no code has nothing to tell of a position."""
-        return Error(Code.NO_SUCH_POSITION if self._graph.opened else Code.CLOSED_GRAPH, position=position)
+def _unanswered(graph: _Graph, code: int, *positions: int) -> Error:
+    """Why a question about the commits at these positions has no answer. Where the graph has no such position, it is the first."""
+    count = _library.cg_num_commits(graph)
+    return Error(code, position=next((position for position in positions if _place(position) >= count), 0))
+
+
+def _none_at(graph: _Graph, position: int) -> Error:
+    """Why a call that tells no code has nothing to tell of a position."""
+    return Error(Code.NO_SUCH_POSITION if graph.opened else Code.CLOSED_GRAPH, position=position)
 
 
 def _files(layers: Sequence[tuple[bytes, str]]) -> "tuple[ctypes.Array[_File], object]":

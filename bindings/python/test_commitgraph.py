@@ -1,5 +1,6 @@
 """Over a commit-graph that Git writes: what the module answers is what Git says."""
 
+import copy
 import ctypes.util
 import errno
 import hashlib
@@ -10,6 +11,7 @@ import shutil
 import subprocess
 import sys
 import tempfile
+import threading
 import unittest
 from collections.abc import Callable
 
@@ -252,6 +254,46 @@ class OverGit(unittest.TestCase):
                 self.refused(Code.STOPPED, lambda: graph.compare(tip, [root], **narrow))
                 self.refused(Code.STOPPED, lambda: commitgraph.open(self.info, **narrow))
         self.refused(Code.STOPPED, lambda: commitgraph.open(self.info, visits=6), position=6)
+
+    def test_copies(self) -> None:
+        """A graph and a flag are neither copied nor pickled, and go on as before."""
+        self.git("commit-graph", "write", "--reachable")
+        flag = Flag()
+        with commitgraph.open(self.info) as graph:
+            first = graph.id(0)
+            for one in (graph, flag):
+                for made in (copy.copy, copy.deepcopy, pickle.dumps):
+                    with self.assertRaisesRegex(TypeError, "cannot be copied or pickled; what to do: "):
+                        made(one)
+            self.assertEqual((graph.id(0), graph.is_ancestor(0, 0, flag=flag)), (first, True))
+
+    def test_closing(self) -> None:
+        """Threads that ask a graph while another one closes it have whole answers, until they learn that it is closed."""
+        self.git("commit-graph", "write", "--reachable")
+        data, wrong = (self.info / "commit-graph").read_bytes(), []
+        for _ in range(40):
+            graph, begun = Graph([(data, "")]), threading.Barrier(5)
+            all_ids, others = graph.ids(range(len(graph))), list(range(1, len(graph)))
+            whole = graph.compare(0, others)
+
+            def ask() -> None:
+                begun.wait()
+                try:
+                    while (graph.ids(range(len(all_ids))), graph.compare(0, others)) == (all_ids, whole):
+                        pass
+                    wrong.append("another answer")
+                except Error as error:
+                    if error.code != Code.CLOSED_GRAPH:
+                        wrong.append(str(error))
+
+            threads = [threading.Thread(target=ask) for _ in range(4)]
+            for thread in threads:
+                thread.start()
+            begun.wait()
+            graph.close()
+            for thread in threads:
+                thread.join()
+        self.assertEqual(wrong, [])
 
     def test_faults(self) -> None:
         """The layer and the commit of which a check speaks are told, of a file by its bytes, and of a chain by its path."""

@@ -705,6 +705,11 @@ def go(prefix, environment, scratch):
     at = {**environment, **own}
     done = run("go", "vet", "./...", cwd=package, env=at)
     expect("Go: vet", done.returncode == 0 and not done.stdout, done)
+    copied = package / "copied_test.go"
+    copied.write_text("package commitgraph\n\nfunc copied(graph *Graph) Graph { return *graph }\n")
+    done = run("go", "vet", "./...", cwd=package, env=at)
+    expect("Go: vet tells of a graph that is copied", done.returncode != 0 and "copies lock" in done.stdout + done.stderr, done)
+    copied.unlink()
     if present("gofmt", "Go: the layout"):
         done = run("gofmt", "-l", ".", cwd=package)
         expect("Go: the layout", done.returncode == 0 and not done.stdout, done)
