@@ -116,13 +116,13 @@ same-words : (commits : List NewCommit) (history : List Node) → length commits
     → length commit.parents.items ≡ length (parents_at history p))
     → word_count commits ≡ sum_by words_for (parent_numbers history)
 same-words [] [] as_many each = refl
-same-words [] (node ∷ history) as_many each = absurd (omega as_many)
-same-words (commit ∷ commits) [] as_many each = absurd (omega as_many)
+same-words [] (node ∷ history) as_many each = absurd (omega (arith, as_many))
+same-words (commit ∷ commits) [] as_many each = absurd (omega (arith, as_many))
 same-words (commit ∷ commits) (node ∷ history) as_many each =
     sum_by-cons (λ (c : NewCommit). words_for (length c.parents.items)) commit commits
     ∙ ap (λ (n : ℕ). words_for n + word_count commits) (each 0 commit refl)
     ∙ ap (λ (n : ℕ). words_for (length node.parents) + n)
-    (same-words commits history (omega as_many)
+    (same-words commits history (omega (arith, as_many))
     (λ (p : ℕ) (c : NewCommit) (at : slice_get commits p ≡ Some c). each (suc p) c at))
     ∙ sym (sum_by-cons words_for (length node.parents) (parent_numbers history))
 
