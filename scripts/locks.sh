@@ -10,11 +10,21 @@ name_files() {
     make_shared_folder "$target/info" || return
     [ -z "$split" ] || make_shared_folder "${chain%/*}" || return
     for path in "$single" "$chain"; do
-        [ ! -d "$path" ] ||
-            refuse_writing "'$path' is a folder, not a file" 'remove the folder, and ask again' "    rm -rf $(quoted "$path")" || return
+        [ ! -d "$path" ] || refuse_folder_of "$path" || return
     done
     [ ! -L "$single" ] || single=$(readlink -f "$single")
     [ ! -L "$chain" ] || chain=$(readlink -f "$chain")
+}
+
+# Notes that a folder, or a link to one, stands where a file has to be.
+refuse_folder_of() {
+    if ! is_own "$target/info"; then
+        refuse_writing "'$1' is a folder, not a file" "ask whoever keeps '$target' to remove it"
+    elif [ -L "$1" ]; then
+        refuse_writing "'$1' is a link to a folder, and not a file" 'remove the link, and ask again' "    rm -f $(quoted "$1")"
+    else
+        refuse_writing "'$1' is a folder, not a file" 'remove the folder with all that it has, and ask again' "    rm -rf $(quoted "$1")"
+    fi
 }
 
 # Makes a folder, if there is none, with the rights that Git gives it.
@@ -64,9 +74,14 @@ look_for_locks() {
 
 # Notes that others hold the locks `others`.
 refuse_locked() {
-    fail 'the commit-graph is locked' "the lock is$others" \
-        'wait for whoever writes it. If nobody does, a process was killed while it did: remove the lock, and ask again' \
-        "    rm -f$others"
+    if is_own "$target/info" && is_own "$single"; then
+        fail 'the commit-graph is locked' "the lock is$others" \
+            'wait for whoever writes it. If nobody does, a process was killed while it did: remove the lock, and ask again' \
+            "    rm -f$others"
+    else
+        fail 'the commit-graph is locked' "the lock is$others" \
+            "wait for whoever writes it. If nobody does, ask whoever keeps '$target' to remove the lock"
+    fi
 }
 
 # Makes a lock, which must not be there, and opens it. It may only be read from then on, as Git's. No signal comes between.

@@ -23,7 +23,7 @@ INSTALLED = {
     *("lib/git-cgraph/docs/MANUAL.md", "lib/git-cgraph/docs/REFUSALS.md"),
     *("lib/git-cgraph/scripts/answers.sh", "lib/git-cgraph/scripts/usage.sh", "lib/git-cgraph/scripts/commands"),
     *("lib/git-cgraph/scripts/explain.awk", "lib/git-cgraph/scripts/manual.awk", "lib/git-cgraph/scripts/alternates.awk"),
-    *("lib/git-cgraph/scripts/repository.sh", "lib/git-cgraph/scripts/cures.sh"),
+    *("lib/git-cgraph/scripts/repository.sh", "lib/git-cgraph/scripts/anew.sh", "lib/git-cgraph/scripts/cures.sh"),
     *("lib/git-cgraph/scripts/progress.sh", "lib/git-cgraph/scripts/objects.sh", "lib/git-cgraph/scripts/show.sh"),
     *("lib/git-cgraph/scripts/locks.sh", "lib/git-cgraph/scripts/write.sh", "lib/git-cgraph/scripts/new_commits.awk"),
     *("lib/git-cgraph/scripts/json.sh", "lib/git-cgraph/scripts/json.awk", "lib/git-cgraph/scripts/fields", "lib/git-cgraph/scripts/fields.awk"),

@@ -69,6 +69,10 @@ STATUSES = [
 ]
 """A word, the line and the status of its program, and the status of `git cgraph`."""
 
+TABLE = "".join(name + "\0" * 8 for name in ("OIDF", "OIDL", "CDAT", "\0\0\0\0"))
+CONTENT = "CGPH\1\1\3\0" + TABLE
+"""A header and a table of chunks, by which there are no filters."""
+
 NEWER = "if the commit is newer than the commit-graph, write that again"
 
 
@@ -102,7 +106,7 @@ def make_repository(clone, path):
     git(clone, path, "tag", "tree", "HEAD^{tree}")
     os.mkdir(os.path.join(path, b"sub"))
     with open(os.path.join(path, b".git/objects/info/commit-graph"), "w", encoding="ascii") as file:
-        file.write("content")
+        file.write(CONTENT)
     return path
 
 
@@ -131,7 +135,8 @@ def said(sentences):
 
 def anew(folder, name, *options):
     """The commands that write the commit-graph of an info folder anew, where it has this name."""
-    return ["rm -rf '%s/%s'" % (folder.replace("'", "'\\''"), name), " ".join(["git commit-graph write --reachable", *options])]
+    remove = "rm -rf" if name.endswith("s") else "rm -f"
+    return ["%s '%s/%s'" % (remove, folder.replace("'", "'\\''"), name), " ".join(["git commit-graph write --reachable", *options])]
 
 
 def check_words(results, clone):
@@ -198,9 +203,10 @@ def check_questions(results, clone, repository, shell):
         for way, answer in ways.items():
             complaint = None if answer == expected else "it is %r" % (answer,)
             results.check("%s git-cgraph %s %s" % (" ".join(shell), word, way), complaint)
-    clone.put_program("graphtool", "cat\nprintf '<%s>' \"$@\"\n")
+    clone.put_program("graphtool", "tr '\\0\\1\\3' '013'\nprintf '<%s>' \"$@\"\n")
     answer = ask(clone, ["list"], sub, shell)
-    results.check("%s git-cgraph list" % " ".join(shell), exactly(answer, 0, "content<list>"))
+    content = "".join(str(ord(letter)) if letter < " " else letter for letter in CONTENT)
+    results.check("%s git-cgraph list" % " ".join(shell), exactly(answer, 0, content + "<list>"))
     clone.put_program("historytool", "cat\nprintf '<%s>' \"$@\"\n")
     answer = ask(clone, ["ask", "--no-progress"], sub, shell, input=b"a question\n\nanother")
     results.check("%s git-cgraph ask" % " ".join(shell), exactly(answer, 0, "a question\n\nanother<ask><info>"))
@@ -251,6 +257,8 @@ def check_repeated(results, clone, repository):
     os.rename(os.path.join(info, b"commit-graph"), os.path.join(info, b"aside"))
     os.mkdir(os.path.join(info, b"commit-graphs"))
     chain = os.path.join(info, b"commit-graphs", b"commit-graph-chain")
+    for layer in (b"aa", b"bb"):
+        shutil.copy(os.path.join(info, b"aside"), os.path.join(info, b"commit-graphs/graph-%s.graph" % layer))
     folder, rows = info.decode("utf-8", "surrogateescape"), refusals.read_rows()
     differs = "the answer may differ from Git's"
     twice, right = "echo 'refused verify 11 position 3 earlier 1'\nexit 1\n", "echo 'ok commits 4 longest 2'\n"
