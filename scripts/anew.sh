@@ -143,6 +143,7 @@ look_beside() {
     [ "$kind" = file ] && is_there "$(chain_file)" || return 0
     make_scratch
     beside_it=$(kind=chain && judge_chain)
+    beside_it=${beside_it:-unknown}
 }
 
 # What the chain is that stands in the folder.

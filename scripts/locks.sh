@@ -131,8 +131,8 @@ set_octal_rights() {
 # Lets the file take its place. From then on it is the one that counts: a chain beside it goes away.
 exchange_file() {
     leave_alone
-    if ! share "$single.lock" || ! mv -f "$single.lock" "$single"; then
-        refuse_full "$single"
+    if ! why=$(share "$single.lock" 2>&1 && mv -f "$single.lock" "$single" 2>&1); then
+        refuse_placing "$single"
         return
     fi
     single_lock=''
@@ -147,14 +147,25 @@ exchange_file() {
 # stays; it counts until it goes away at last.
 exchange_chain() {
     leave_alone
-    if ! put_layers || ! mv -f "$chain.lock" "$chain"; then
-        refuse_full "$chain"
+    if ! why=$(put_layers 2>&1 && mv -f "$chain.lock" "$chain" 2>&1); then
+        refuse_placing "$chain"
         return
     fi
     chain_lock=''
     sync "${chain%/*}"
     rm -f "$single"
     remove_layers
+}
+
+# Notes that a file could not take its place: the folder may not be written any more, or else what was said of it is told.
+refuse_placing() {
+    if [ -d "${1%/*}" ] && [ ! -w "${1%/*}" ]; then
+        refuse_making "$1"
+    else
+        refuse_writing "'$1' could not take its place: ${why:-no reason is known}" \
+            'see whether its disk is full, and who may write there, and ask again' \
+            "    df $(quoted "${1%/*}")$newline    ls -ld $(quoted "${1%/*}")"
+    fi
 }
 
 # Gives the layers their names, and the chain its lines, and has all of that on the disk.

@@ -154,20 +154,23 @@ is_scattered() {
 # Makes a folder for files of a moment, `scratch`, if there is none.
 make_scratch() {
     [ -z "$scratch" ] || return 0
-    scratch=$(mktemp -d 2>/dev/null) ||
-        give_up "no folder for files of a moment can be made in '${TMPDIR:-/tmp}': TMPDIR has to name one that may be written"
+    leave_alone
+    scratch=$(mktemp -d 2>/dev/null)
+    made=$?
     look_after
+    [ $made -eq 0 ] ||
+        give_up "no folder for files of a moment can be made in '${TMPDIR:-/tmp}': TMPDIR has to name one that may be written"
 }
 
 # Sees to it that whatever ends this leaves no such folder, and no lock that it made.
 look_after() {
     trap clean_up EXIT
-    for signal in HUP INT TERM; do trap "clean_up; trap - $signal EXIT; kill -$signal \$\$" $signal; done
+    for signal in 1 2 13 15; do trap "trap - EXIT; clean_up; exit $((128 + signal))" $signal; done
 }
 
 # Sees to it that a signal ends nothing for a moment.
 leave_alone() {
-    trap '' HUP INT TERM
+    trap '' HUP INT PIPE TERM
 }
 
 clean_up() {
@@ -182,12 +185,35 @@ remove_locks() {
     single_lock='' chain_lock=''
 }
 
+# Whether the folder for files of a moment takes no more: some file there cannot grow.
+is_scratch_full() {
+    [ -n "$scratch" ] || return
+    for grown in "$scratch"/*; do
+        [ ! -f "$grown" ] || [ -L "$grown" ] || (head -c 8192 /dev/zero >>"$grown") 2>/dev/null || return 0
+    done
+    return 1
+}
+
+# Notes that the folder for files of a moment takes no more.
+refuse_scratch() {
+    line='a file of a moment could not be written to its end' status=128
+    where="it was to stand in the folder '${scratch%/*}'" cure="    df $(quoted "${scratch%/*}")"
+    advice='see whether the disk of this folder is full, or let TMPDIR name another folder'
+    said="$said$name: $line$newline"
+    return 1
+}
+
+# Ends where no file of a moment can be made.
+give_up_scratch() {
+    give_up "no file of a moment can be made in '${scratch%/*}'" 'see whether its disk is full, or let TMPDIR name another folder' \
+        "    df $(quoted "${scratch%/*}")"
+}
+
 # Makes a folder of links to the layers of a chain, as the programs look for them beside the chain file.
 gather_layers() {
     make_scratch
     rm -rf "${scratch:?}/chain"
-    mkdir "$scratch/chain"
-    cp "$(chain_file)" "$scratch/chain/commit-graph-chain"
+    mkdir "$scratch/chain" && cp "$(chain_file)" "$scratch/chain/commit-graph-chain" || ! is_scratch_full || give_up_scratch
     chain_lines | while IFS= read -r layer; do
         ! [ -e "$(layer_path "$layer")" ] || ln -s "$(layer_path "$layer")" "$scratch/chain/graph-$layer.graph"
     done

@@ -51,12 +51,13 @@ with_files() {
 find_coverage() {
     make_scratch
     if ! list_reachable >"$scratch/reachable"; then
-        line='the commits of this repository could not be listed' status=128
+        refuse_listing
     elif ! begin_waiting 'Comparing commits' || ! list_stored >"$scratch/stored" || ! compare_ids; then
-        line='the ids could not be compared' status=128 missing='' unread=yes
+        missing='' unread=yes
+        ! is_scratch_full || refuse_scratch || { end_waiting 'Comparing commits' && return; }
+        line='the ids could not be compared' status=128 said="$said$name: the ids could not be compared$newline"
     fi
     end_waiting 'Comparing commits'
-    [ "$status" -eq 0 ] || said="$said$name: $line$newline"
 }
 
 # Tells that, and what to do, where that is something.

@@ -113,7 +113,7 @@ tell_dropped() {
 
 # Begins a folder of links, in which the programs find what is written, and the layers below it.
 begin_new() {
-    mkdir "$scratch/new" && : >"$scratch/new/commit-graph-chain" || refuse_writing 'no file of a moment can be made'
+    mkdir "$scratch/new" && : >"$scratch/new/commit-graph-chain" || refuse_unread 'no file of a moment can be made'
 }
 
 # Writes a layer of the commits that the commit-graph lacks, on top of the `kept` lowest layers. The others are taken in.
@@ -144,7 +144,7 @@ read_layers() {
     case $? in
     0) awk '/^layer / { commits = $4 } /^checksum / { print commits, $2 }' "$scratch/shown" >"$scratch/layers" ;;
     1) line=$(tail -n 1 "$scratch/shown") status=1 && return 1 ;;
-    *) refuse_writing 'the layers that stand could not be read' ;;
+    *) refuse_unread 'the layers that stand could not be read' ;;
     esac
 }
 
@@ -172,7 +172,7 @@ find_new() {
         0) count=$(($(wc -l <"$scratch/new-ids"))) && return ;;
         3) ;;
         *)
-            [ -n "$line" ] || refuse_writing 'the ids could not be compared'
+            [ -n "$line" ] || refuse_unread 'the ids could not be compared'
             return 1
             ;;
         esac
@@ -222,7 +222,7 @@ take_in() {
     in_place "$historytool" ids "$graph" "$base" "$total" >"$scratch/taken" &&
         git_alone cat-file --batch-check='%(objectname) %(objecttype)' --buffer <"$scratch/taken" >"$scratch/types" &&
         sed -n 's/ commit$//p' "$scratch/types" >>"$scratch/new-ids" && LC_ALL=C sort -u -o "$scratch/new-ids" "$scratch/new-ids" ||
-        refuse_writing 'the layers that stand could not be read'
+        refuse_unread 'the layers that stand could not be read'
 }
 
 list_new() {
@@ -256,7 +256,7 @@ link_layers() {
     number=0
     for checksum in $(checksums "$kept"); do
         ln -s "$(layer_file $number)" "$scratch/new/graph-$checksum.graph" &&
-            echo "$checksum" >>"$scratch/new/commit-graph-chain" || refuse_writing 'no file of a moment can be made' || return
+            echo "$checksum" >>"$scratch/new/commit-graph-chain" || refuse_unread 'no file of a moment can be made' || return
         number=$((number + 1))
     done
 }
@@ -269,7 +269,7 @@ add_layer() {
     esac
     checksum=$(tail -c $size "$single.lock" | od -An -v -tx1 | tr -d ' \n')
     ln -s "$single.lock" "$scratch/new/graph-$checksum.graph" && echo "$checksum" >>"$scratch/new/commit-graph-chain" ||
-        refuse_writing 'no file of a moment can be made'
+        refuse_unread 'no file of a moment can be made'
 }
 
 # Makes a file of the commits that a command lists, on top of the layers at a path of the folder of a moment, or of none.
@@ -302,9 +302,14 @@ ended() {
     echo "${number:-128}"
 }
 
-# Whether a file was made, by the statuses of the list, of `tee`, of Git and of the program. Where the list ended early, the others
+# Whether a file was made, by the statuses of the list, of `tee`, of Git and of the program. The signal by which a process ends
+# whose file is larger than it may be makes 153. Where the list ended early, the others
 # had a part of it. A program that ended since nobody read on (141) is not the one that failed.
 judge_file() {
+    case $2,$4 in
+    153,*) refuse_scratch || return ;;
+    *,153) refuse_full "$single.lock" || return ;;
+    esac
     for ended in "$@"; do
         ! is_signal "$ended" || end_by_signal "$ended" || return
     done
@@ -313,7 +318,7 @@ judge_file() {
     0,*,1 | 141,*,1) judge_refused ;;
     *,141,0) refuse_writing 'historytool write did not read all commits' ;;
     0,0,*,0) fail "git cat-file ended with status $3" ;;
-    0,[1-9],*) refuse_full "$scratch" ;;
+    0,[1-9],*) refuse_scratch ;;
     0,* | 141,*) refuse_full "$single.lock" ;;
     *) refuse_listing ;;
     esac
@@ -346,8 +351,14 @@ report_nothing() {
     warn "$1: nothing is written"
 }
 
+# Notes that Git could not list the commits, or that there was no room for the list.
 refuse_listing() {
-    fail 'the commits of this repository could not be listed'
+    if is_scratch_full; then refuse_scratch; else fail 'the commits of this repository could not be listed'; fi
+}
+
+# Notes that nothing is written, for a reason, or since there was no room for files of a moment.
+refuse_unread() {
+    if is_scratch_full; then refuse_scratch; else refuse_writing "$@"; fi
 }
 
 # Whether both programs find right what is written, at a path of the folder of a moment, and with all of its commits. Meanwhile the
@@ -362,7 +373,7 @@ check_new() {
     in_place "$historytool" check "$1" >"$scratch/checked"
     checked=$?
     if ! wait $verifying || [ $checked -ne 0 ] || ! has_all verified || ! has_all checked; then
-        refuse_writing "what was written is refused: $(cat "$scratch/verified" "$scratch/checked" | sed -n '/^refused/{p;q;}')"
+        refuse_unread "what was written is refused: $(cat "$scratch/verified" "$scratch/checked" | sed -n '/^refused/{p;q;}')"
     elif ! wait $syncing; then
         refuse_full "$single.lock"
     fi
