@@ -15,7 +15,8 @@ wait_for_question() {
         (exec <&- && . "$top/scripts/question.sh") &
     fi
     answering=$!
-    wait $answering
+    # What a shell says of a child that a signal ended is not for whoever sent it.
+    wait $answering 2>/dev/null
     exit $?
 }
 
@@ -23,6 +24,7 @@ wait_for_question() {
 # Of PIPE, which is sent first, a shell says nothing.
 end_question() {
     trap '' HUP INT QUIT PIPE TERM
+    exec 2>/dev/null
     came=$1 sent=PIPE
     while set -- $(started_by $answering) && [ $# -gt 0 ]; do
         kill -$sent "$@" 2>/dev/null

@@ -1,7 +1,6 @@
 # How `git cgraph` takes its words, asks, and answers. It reads this file with `.`, in a process of its own, with the words as the
 # arguments, after all that defines functions.
 
-look_after
 word='' closed='' verbose='' split='' keep_filters='' all_checks='' objects_too='' jobs='' progress='' alone='' unchecked=''
 run=in_place
 while [ $# -gt 0 ]; do

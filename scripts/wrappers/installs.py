@@ -26,6 +26,7 @@ INSTALLED = {
     *("lib/git-cgraph/scripts/repository.sh", "lib/git-cgraph/scripts/anew.sh", "lib/git-cgraph/scripts/cures.sh"),
     *("lib/git-cgraph/scripts/progress.sh", "lib/git-cgraph/scripts/objects.sh", "lib/git-cgraph/scripts/show.sh"),
     *("lib/git-cgraph/scripts/locks.sh", "lib/git-cgraph/scripts/write.sh", "lib/git-cgraph/scripts/new_commits.awk"),
+    *("lib/git-cgraph/scripts/guard.sh", "lib/git-cgraph/scripts/question.sh"),
     *("lib/git-cgraph/scripts/json.sh", "lib/git-cgraph/scripts/json.awk", "lib/git-cgraph/scripts/fields", "lib/git-cgraph/scripts/fields.awk"),
     *("include/commitgraph.h", "include/commitgraph_path.h", "lib/libcommitgraph.a", "lib/libcommitgraph.so", "lib/libcommitgraph.so.0"),
     *("lib/libcommitgraph.so." + version.number(), "lib/pkgconfig/commitgraph.pc", "share/man/man3/commitgraph.3"),

@@ -4,6 +4,7 @@ its sentence says. Nothing outside of the repository changes, and no file and no
 
 import os
 import re
+import resource
 import shutil
 import tempfile
 from functools import partial
@@ -311,6 +312,20 @@ def failing(spot):
     spot.clone.put_program("historytool", "cat >/dev/null\nexit 2\n")
 
 
+def limited(size):
+    """A folder for files of a moment in which a file may have so many bytes."""
+    def make(spot):
+        spot.write()
+        spot.streams = {"preexec_fn": lambda: resource.setrlimit(resource.RLIMIT_FSIZE, (size, size))}
+    return make
+
+
+def not_renamed(spot):
+    """A command `mv` that may not rename the new commit-graph."""
+    os.remove(os.path.join(spot.clone.folder, "bin/mv"))
+    spot.clone.put("bin/mv", "#!/bin/sh\necho 'Permission denied' >&2\nexit 1\n")
+
+
 FORK, ALL, GIT_WRITES = ("fork",), SPOTS, "{git} commit-graph write --reachable"
 WITH_HEADS = "{git} rev-list --no-walk --all%s | {git} commit-graph write --stdin-commits"
 DAMAGED = (
@@ -429,6 +444,12 @@ KEPT = (
     Row("a folder in the way", "refuse_folder_of", in_the_way("folder"), ["write"], ("rm -rf {file}",), "remove the folder", is_free),
     Row("a link to a folder in the way", "refuse_folder_of", in_the_way("link"), ["write"], ("rm -f {file}",), "remove the link", is_free),
     Row("a program that cannot write", "refuse_full", failing, ["write"], ("df {info}",), "", nothing),
+    Row("a folder for files of a moment that takes nothing", "give_up_scratch", limited(0), ["verify", "--json"], ("df {temporary}",),
+        "no file of a moment can be made", nothing),
+    Row("a folder for files of a moment that takes little", "refuse_scratch", limited(100), ["show"], ("df {temporary}",),
+        "it was to stand in the folder", nothing),
+    Row("a file that may not be renamed", "refuse_placing", not_renamed, ["write"], ("df {info}", "ls -ld {info}"),
+        "could not take its place: Permission denied", nothing),
     Row("a folder that may not be written", "refuse_making", closed(".", 0o555), ["write"], ("ls -ld {info}",), "may write there", nothing),
     Row("a folder that may not be entered", "diagnose_opening", closed(".", 0o600), ["verify"], ("ls -ld {info}",), "may enter the folder", nothing),
     Row("a file that may not be read", "diagnose_opening", closed(GRAPH, 0), ["verify"], ("ls -l {file}",), "may read the file", nothing),

@@ -344,6 +344,10 @@ def check_ends(results, clone, repository):
     for number in (signal.SIGINT, signal.SIGTERM, signal.SIGHUP):
         results.check("git cgraph, sent %s" % number.name, interrupted(clone, repository, number))
     results.check("git cgraph, ended by itself", ended_alone(clone, repository))
+    for word in ("verify", "list", "ask", "show"):
+        for number in (signal.SIGINT, signal.SIGTERM, signal.SIGPIPE):
+            complaint = git_ended(clone, repository, word, number)
+            results.check("git cgraph %s, %s to the process git alone" % (word, number.name), complaint)
 
 
 def interrupted(clone, repository, number):
@@ -371,13 +375,44 @@ def ended_alone(clone, repository):
     return None if right else "status %d, %r and %r" % (running.returncode, out, err)
 
 
-def start(clone, repository, lines):
+def git_ended(clone, repository, word, number):
+    """A complaint where something runs on, or is left over, after a signal to Git, of which the script is a child."""
+    handlers = [(one, signal.signal(one, signal.SIG_DFL)) for one in (signal.SIGINT, signal.SIGPIPE)]
+    lines = "echo $$ >'%s'\nexec sleep 30\n" % os.path.join(clone.folder, "process")
+    with start(clone, repository, lines, ["git", "cgraph", word]) as running:
+        while not os.path.exists(os.path.join(clone.folder, "process")):
+            time.sleep(0.01)
+        running.send_signal(number)
+        out, err = running.communicate()
+    for one, handler in handlers:
+        signal.signal(one, handler)
+    time.sleep(0.1)
+    with open(os.path.join(clone.folder, "process"), encoding="ascii") as file:
+        runs = is_running(file.read().strip())
+    os.remove(os.path.join(clone.folder, "process"))
+    right = running.returncode == -number and not out and not err and not runs and not clone.left_over()
+    return None if right else "status %d, %r and %r, it runs: %s" % (running.returncode, out, err, runs)
+
+
+def is_running(process):
+    """Whether a process runs, and has not merely ended unnoticed."""
+    try:
+        with open("/proc/%s/stat" % process, encoding="ascii") as file:
+            return file.read().rsplit(") ", 1)[1][0] not in "ZX"
+    except OSError:
+        return False
+
+
+def start(clone, repository, lines, command=None):
     """A run of `git cgraph` whose program has started with some lines of a shell script."""
     started = os.path.join(clone.folder, "started")
-    clone.put_program("graphtool", "echo started >'%s'\n%s\n" % (started, lines))
-    command = [os.path.join(clone.folder, "git-cgraph"), "verify"]
+    for program in ("graphtool", "historytool"):
+        clone.put_program(program, "echo started >'%s'\n%s\n" % (started, lines))
+    command = command or [os.path.join(clone.folder, "git-cgraph"), "verify"]
+    variables = clone.surroundings()
+    variables["PATH"] = clone.folder + ":" + variables["PATH"]
     quiet = {"stdin": subprocess.DEVNULL, "stdout": subprocess.PIPE, "stderr": subprocess.PIPE}
-    running = subprocess.Popen(command, env=clone.surroundings(), cwd=repository, start_new_session=True, **quiet)
+    running = subprocess.Popen(command, env=variables, cwd=repository, start_new_session=True, **quiet)
     while not os.path.exists(started):
         time.sleep(0.01)
     os.remove(started)

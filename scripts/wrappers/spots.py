@@ -46,7 +46,11 @@ class Spot:
         os.makedirs(self.info, exist_ok=True)
 
     def put_programs(self):
-        """Puts the programs there."""
+        """Puts the programs there, and `mv` as it is."""
+        link = os.path.join(self.clone.folder, "bin", "mv")
+        if not os.path.islink(link):
+            os.remove(link)
+            os.symlink(shutil.which("mv"), link)
         for name in ("graphtool", "historytool"):
             self.clone.put_program(name, "exec '%s' '%s' %s \"$@\"\n" % (sys.executable, PROGRAMS, name))
 
@@ -143,8 +147,9 @@ class Spot:
             git, here = "git --git-dir=" + quoted(self.common), "git -C " + quoted(os.path.realpath(self.folder))
         elif self.kind == "bare":
             git = here = "git --git-dir=" + quoted(self.common)
-        names = {"file": self.path(GRAPH), "chains": self.path(CHAINS), "lock": self.path(GRAPH + ".lock"), "info": self.info}
-        return {"git": git, "here": here, **{name: quoted(path) for name, path in names.items()}, **self.more}
+        names = {"file": GRAPH, "chains": CHAINS, "lock": GRAPH + ".lock", "info": self.info, "temporary": self.clone.temporary}
+        words = {name: quoted(path if os.path.isabs(path) else self.path(path)) for name, path in names.items()}
+        return {"git": git, "here": here, **words, **self.more}
 
     def verdict(self):
         """A complaint where Git does not find the commit-graph right and whole, or filters are not there that were."""

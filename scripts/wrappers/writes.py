@@ -289,6 +289,7 @@ def check_given_back(results):
 single=/a/file chain=/a/folder/chain looks=0 tries=0
 quoted() { printf '%s' "$1"; }
 fail() { printf '%s\\n' "$@"; return 1; }
+is_own() { :; }
 is_there() { looks=$((looks + 1)); [ $looks -eq SEEN ]; }
 take_lock() { tries=$((tries + 1)); [ $tries -gt 1 ]; }
 take_locks && echo taken
