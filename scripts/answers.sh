@@ -3,7 +3,7 @@
 
 newline='
 '
-passes=pass_on rewrite='' holds='' beside='' where='' file='' advice='' cure='' commit='' warnings=''
+passes=pass_on rewrite='' holds='' beside='' where='' file='' advice='' cure='' note='' commit='' warnings=''
 
 # Says one line on standard error.
 say() {
@@ -172,14 +172,14 @@ layer_of_position() {
 
 # Says what `line` means and what to do, by the tables of docs/REFUSALS.md: explain FORM COMMAND PATH [ID..]. `beside` is the
 # line of another row, which has to be said too, or empty. What is known of a repository stands in `where`, a sentence on
-# the file of which the line speaks, `advice`, what to do in place of what the table has, and `cure`, the commands by
-# which a commit-graph is written anew; each is empty where nothing is known. In the form `json` it writes the fields of an
-# object, with the path `file`, if `where` speaks of it, and with `warnings`.
+# the file of which the line speaks, `advice`, what to do in place of what the table has, `cure`, the commands by
+# which a commit-graph is written anew, and `note`, what these may lose; each is empty where nothing is known. In the form
+# `json` it writes the fields of an object, with the path `file`, if `where` speaks of it, and with `warnings`.
 explain() {
     form=$1 command=$2 path=$3
     shift 3
     NAME=$name FORM=$form LINE=$line COMMAND=$command IDS=$* COMMIT=${commit:-$(commit_at "$path")} BESIDE=$beside \
-        WHERE=$where FILE=${where:+$file} ADVICE=$advice CURE=$cure WARNINGS=$warnings LC_ALL=C \
+        WHERE=$where FILE=${where:+$file} ADVICE=$advice CURE=$cure NOTE=$note WARNINGS=$warnings LC_ALL=C \
         awk -f "$top/scripts/json.awk" -f "$top/scripts/explain.awk" "$top/docs/REFUSALS.md"
 }
 

@@ -115,74 +115,39 @@ is_moved() {
     [ -n "$from" ] && ! [ "$from" -ef . ]
 }
 
-# `git` with the words by which it speaks of the repository whose commit-graph this is.
-git_there() {
-    if [ "$home" != "$objects" ] && [ -z "$named" ]; then
-        printf 'git --git-dir=%s' "$(quoted "${home%/objects}")"
-    elif [ -n "${GIT_DIR-}" ] || is_moved; then
+# `git`, as it is called for the repository of the question: by -C where that folder is not the shell's.
+git_here() {
+    if [ -n "${GIT_DIR-}" ]; then
         printf 'git --git-dir=%s' "$(quoted "$common")"
     else
         printf git
+        ! is_moved || printf ' -C %s' "$(quoted "$(pwd -P)")"
     fi
-    ! has_replacements || printf ' --no-replace-objects'
-}
-
-# `git`, as it is called for the repository of the question: by -C where that folder is not the shell's.
-git_here() {
-    printf git
-    ! is_moved || printf ' -C %s' "$(quoted "$(pwd -P)")"
-}
-
-# Turns from the commit-graph of another repository, if it is one, to that which this repository may have of its own.
-turn_to_own() {
-    [ "$home" = "$objects" ] || [ -n "$named" ] || { home=$objects folder=$objects/info kind=file; }
-}
-
-# Where the layer of which a refusal speaks is in another repository's object folder, the commands that write it anew there.
-anew_elsewhere() {
-    case $file in
-    '' | "$home"/*) return ;;
-    */info/commit-graphs/*) (home=${file%/info/commit-graphs/*} folder=${file%/commit-graphs/*} named='' && removes && writes && echo) ;;
-    esac
-}
-
-# The commands that write the commit-graph anew.
-anew() {
-    anew_elsewhere
-    removes
-    writes
-}
-
-# The command that writes a commit-graph, of the same form as the one that is there.
-writes() {
-    printf '    %s commit-graph write --reachable' "$(git_there)"
-    [ -z "$named" ] || printf ' --object-dir=%s' "$(quoted "$named")"
-    [ "$kind" != chain ] || printf ' --split'
-    ! has_filters || printf ' --changed-paths'
-}
-
-# The commands that remove what is there.
-removes() {
-    set --
-    ! is_there "$folder/commit-graph" || set -- "$@" "$(quoted "$folder/commit-graph")"
-    ! is_there "$folder/commit-graphs" || set -- "$@" "$(quoted "$folder/commit-graphs")"
-    [ $# -eq 0 ] || printf '    rm -rf %s\n' "$*"
 }
 
 # Why Git would write no commit-graph here, as what to do first; the answer is false where it would.
 is_hindered() {
-    if has_grafts; then
+    if is_unused; then
+        advice='Git uses no commit-graph here, and writes none, since core.commitGraph is false: write it all the same'
+        cure=$(writes_own '-c core.commitGraph=true')
+    elif has_grafts; then
         advice="Git writes no commit-graph where '$common/info/grafts' has commits: make replacements of them, and write it"
-        cure="    $(git_here) replace --convert-graft-file$newline    $(git_here) --no-replace-objects commit-graph write --reachable"
+        cure="    $(git_here) replace --convert-graft-file$newline$(writes_own --no-replace-objects)"
     elif [ "$is_shallow" != false ]; then
         advice='Git writes no commit-graph in a shallow repository: fetch the whole history, and write it'
-        cure="    $(git_here) fetch --unshallow$newline    $(git_here) commit-graph write --reachable"
+        cure="    $(git_here) fetch --unshallow$newline$(writes_own '')"
     elif ! has_commits; then
         advice='no branch or tag leads to a commit yet: make one, and write it'
-        cure="    $(git_here) commit-graph write --reachable"
+        if [ "$kind" = none ]; then cure=$(writes ''); else cure=$(writes_own ''); fi
     else
         return 1
     fi
+    tell_links
+}
+
+# Whether Git uses no commit-graph here, as the user wants it.
+is_unused() {
+    [ "$(git config --type=bool core.commitGraph 2>/dev/null)" = false ]
 }
 
 # Sets `advice` where the row has what only a path of one's own can be asked for: here the whole chain was opened.
@@ -206,12 +171,10 @@ diagnose() {
     'the commits of this repository could not be listed') diagnose_listing ;;
     'refused '*)
         name_file
-        is_hindered || { advise && cure=$(anew); }
+        advise_anew
         ;;
-    unknown*)
-        is_hindered || { advice='if the commit is newer than the commit-graph, write that again' && cure=$(turn_to_own && writes); }
-        ;;
-    *) [ -z "$beside" ] || is_hindered || cure=$(anew) ;;
+    unknown*) diagnose_unknown ;;
+    *) [ -z "$beside" ] || advise_anew ;;
     esac
 }
 
@@ -222,9 +185,7 @@ diagnose_opening() {
         advice="see to it that whoever runs this may enter the folder, and ask again" cure="    ls -ld $(quoted "$file")"
         return
     elif [ "$kind" = none ]; then
-        is_absent=yes line='there is no commit-graph'
-        said="$name: $line$newline"
-        is_hindered || { advice='have Git write one' && cure=$(writes); }
+        diagnose_absent
         return
     fi
     find_obstacle
@@ -232,10 +193,54 @@ diagnose_opening() {
     'may not be read'* | '') is_absent=yes ;;
     *)
         advice='write it anew'
-        is_hindered || cure=$(anew)
+        advise_anew
         return
         ;;
     esac
     advice="see to it that whoever runs this may read the file, and ask again"
     cure="    ls -l $(quoted "$file")"
+}
+
+# The same where there is no commit-graph.
+diagnose_absent() {
+    is_absent=yes line='there is no commit-graph' file=''
+    said="$name: $line$newline"
+    look_for_foreign
+    look_for_filters
+    if is_hindered; then
+        :
+    elif [ -n "$foreign" ]; then
+        advise_own 'write it'
+    else
+        advice='have Git write one' cure=$(writes '')
+    fi
+}
+
+# The same of a commit that the commit-graph lacks. Git writes one that has it where something leads to the commit.
+diagnose_unknown() {
+    asked_id=$(printf '%s\n' $ids | sed -n "${line#unknown }p")
+    look_for_foreign
+    look_for_filters
+    if ! is_led_to --all --reflog; then
+        advice='no reference, no HEAD and no reflog leads to the commit, so that Git writes it into no commit-graph: make a branch there, and write it then'
+    elif is_hindered; then
+        :
+    elif [ -n "$foreign" ]; then
+        advise_own 'write it again'
+    elif is_led_to --all; then
+        advice='if the commit is newer than the commit-graph, write that again' cure=$(writes "$(splits)")
+    else
+        advice='only a reflog leads to the commit, as to one of several stashes: write the commit-graph with all that reflogs lead to'
+        cure=$(writes "$(splits)" '' ' --reflog')
+    fi
+}
+
+# Whether some words of `git rev-list`, as --all, lead to the commit that was asked for, or whether Git cannot tell.
+is_led_to() {
+    [ -z "$(plain_git rev-list -n 1 "$asked_id" --not "$@" 2>/dev/null)" ]
+}
+
+# The option by which Git writes a commit-graph of the form of the one that is there.
+splits() {
+    [ "$kind" != chain ] || echo ' --split'
 }

@@ -3,9 +3,9 @@
 # name to speak by, and, each of them empty where it is not known, IDS, the ids that were asked about, COMMIT, the id of the
 # commit at the position that the line names, BESIDE, the line of another row, which is said too: what to do is then as
 # that row has it; WHERE, a sentence on the file of which the line speaks; ADVICE, what to do in the place of what the
-# row has; and CURE, the commands by which the commit-graph is written anew, a line for each. Where FORM is `json`, the
-# same is written as fields of a JSON object, with FILE, the path of the file, and WARNINGS, what else was said, as texts
-# of JSON with commas between them.
+# row has; CURE, the commands by which the commit-graph is written anew, a line for each; and NOTE, a sentence on what these
+# may lose. Where FORM is `json`, the same is written as fields of a JSON object, with FILE, the path of the file, and
+# WARNINGS, what else was said, as texts of JSON with commas between them.
 #
 # A row is that of the line if a text in backquotes in its first cell has the line's words, where a capital
 # letter stands for any number, and the line may have more words at its end. Of several such rows the one with
@@ -60,11 +60,16 @@ function has_commands(text) {
     return (text ~ /write it anew/ || ENVIRON["ADVICE"] != "") && ENVIRON["CURE"] != ""
 }
 
+# The sentence that follows on what to do, if there is one.
+function noted() {
+    return ENVIRON["NOTE"] == "" ? "" : ". " ENVIRON["NOTE"]
+}
+
 # Says what to do, and how a commit-graph is written anew where that is a part of it.
 function tell_cure(text,    anew) {
     anew = happened["write it anew"]
     if (has_commands(text)) {
-        say("what to do: " text ":")
+        say("what to do: " text noted() ":")
         printf "%s\n", ENVIRON["CURE"]
     } else if (text == "write it anew") say("what to do: " anew)
     else {
@@ -85,7 +90,7 @@ function write_fields(    warnings, text) {
     write_field("commit", line ~ /^unknown / ? nth_id(value["N"]) : ENVIRON["COMMIT"])
     text = to_be_done()
     if (text == "write it anew" && ENVIRON["CURE"] == "") text = happened[text]
-    write_field("advice", text)
+    write_field("advice", has_commands(text) ? text noted() : text)
     if (has_commands(text) && is_readable(ENVIRON["CURE"])) printf ",\"cure\":%s", commands_of(ENVIRON["CURE"])
 }
 

@@ -20,7 +20,7 @@ json_text() {
 # Sees to it that lines become objects, or are held back.
 prepare_objects() {
     make_scratch
-    printf '' >"$scratch/lines" || give_up 'no file of a moment can be made'
+    (printf '\n' >"$scratch/lines") 2>/dev/null && printf '' >"$scratch/lines" || give_up_scratch
     if [ "$word" = list ]; then rewrite=list_objects; else rewrite=gather; fi
 }
 

@@ -10,11 +10,21 @@ name_files() {
     make_shared_folder "$target/info" || return
     [ -z "$split" ] || make_shared_folder "${chain%/*}" || return
     for path in "$single" "$chain"; do
-        [ ! -d "$path" ] ||
-            refuse_writing "'$path' is a folder, not a file" 'remove the folder, and ask again' "    rm -rf $(quoted "$path")" || return
+        [ ! -d "$path" ] || refuse_folder_of "$path" || return
     done
     [ ! -L "$single" ] || single=$(readlink -f "$single")
     [ ! -L "$chain" ] || chain=$(readlink -f "$chain")
+}
+
+# Notes that a folder, or a link to one, stands where a file has to be.
+refuse_folder_of() {
+    if ! is_own "$target/info"; then
+        refuse_writing "'$1' is a folder, not a file" "ask whoever keeps '$target' to remove it"
+    elif [ -L "$1" ]; then
+        refuse_writing "'$1' is a link to a folder, and not a file" 'remove the link, and ask again' "    rm -f $(quoted "$1")"
+    else
+        refuse_writing "'$1' is a folder, not a file" 'remove the folder with all that it has, and ask again' "    rm -rf $(quoted "$1")"
+    fi
 }
 
 # Makes a folder, if there is none, with the rights that Git gives it.
@@ -64,9 +74,14 @@ look_for_locks() {
 
 # Notes that others hold the locks `others`.
 refuse_locked() {
-    fail 'the commit-graph is locked' "the lock is$others" \
-        'wait for whoever writes it. If nobody does, a process was killed while it did: remove the lock, and ask again' \
-        "    rm -f$others"
+    if is_own "$target/info" && is_own "$single"; then
+        fail 'the commit-graph is locked' "the lock is$others" \
+            'wait for whoever writes it. If nobody does, a process was killed while it did: remove the lock, and ask again' \
+            "    rm -f$others"
+    else
+        fail 'the commit-graph is locked' "the lock is$others" \
+            "wait for whoever writes it. If nobody does, ask whoever keeps '$target' to remove the lock"
+    fi
 }
 
 # Makes a lock, which must not be there, and opens it. It may only be read from then on, as Git's. No signal comes between.
@@ -116,8 +131,8 @@ set_octal_rights() {
 # Lets the file take its place. From then on it is the one that counts: a chain beside it goes away.
 exchange_file() {
     leave_alone
-    if ! share "$single.lock" || ! mv -f "$single.lock" "$single"; then
-        refuse_full "$single"
+    if ! why=$(share "$single.lock" 2>&1 && mv -f "$single.lock" "$single" 2>&1); then
+        refuse_placing "$single"
         return
     fi
     single_lock=''
@@ -132,14 +147,25 @@ exchange_file() {
 # stays; it counts until it goes away at last.
 exchange_chain() {
     leave_alone
-    if ! put_layers || ! mv -f "$chain.lock" "$chain"; then
-        refuse_full "$chain"
+    if ! why=$(put_layers 2>&1 && mv -f "$chain.lock" "$chain" 2>&1); then
+        refuse_placing "$chain"
         return
     fi
     chain_lock=''
     sync "${chain%/*}"
     rm -f "$single"
     remove_layers
+}
+
+# Notes that a file could not take its place: the folder may not be written any more, or else what was said of it is told.
+refuse_placing() {
+    if [ -d "${1%/*}" ] && [ ! -w "${1%/*}" ]; then
+        refuse_making "$1"
+    else
+        refuse_writing "'$1' could not take its place: ${why:-no reason is known}" \
+            'see whether its disk is full, and who may write there, and ask again' \
+            "    df $(quoted "${1%/*}")$newline    ls -ld $(quoted "${1%/*}")"
+    fi
 }
 
 # Gives the layers their names, and the chain its lines, and has all of that on the disk.

@@ -205,7 +205,7 @@ diagnose_object() {
     7) ;;
     *)
         name_file
-        is_hindered || cure=$(anew)
+        advise_anew
         ;;
     esac
 }
@@ -236,12 +236,30 @@ diagnose_missing() {
         is_absent=yes
         advice='this is a partial clone, in which the commit is not here, and nothing was fetched: let Git fetch it, and ask again'
         cure="    $(git_here) cat-file -e $commit"
-    elif [ "$question" = write ] || [ "$question" = show ]; then
-        advice='the commit is missing: take it from another copy of the repository, and ask again' cure="    $(git_here) fsck"
+    elif [ "$question" = write ] || [ "$question" = show ] || is_lost; then
+        advice='the commit is missing, and has to come back: take it from another copy of the repository, and ask again. Keep the commit-graph, which may have the last record of its parents'
+        cure="    $(git_here) fsck"
     else
-        advice='where no branch leads to it, Git removed it: write the commit-graph anew. Where Git says then that it is missing, take it from another copy of the repository'
-        is_hindered || cure=$(anew)
+        advise_without
     fi
+}
+
+# Whether a reference, or the HEAD of a worktree, leads to a commit that is missing, as far as Git can tell: it lists all commits
+# only where none of them is.
+is_lost() {
+    make_scratch
+    begin_waiting 'Looking for lost commits'
+    ! plain_git rev-list --quiet --all >/dev/null 2>&1
+    lost=$?
+    end_waiting 'Looking for lost commits'
+    return $lost
+}
+
+# The same of a commit to which nothing leads, so that Git removed it.
+advise_without() {
+    advise_anew
+    [ -n "$foreign" ] || is_hindered ||
+        advice='no reference and no HEAD leads to the commit, so that Git removed it: write the commit-graph anew, without it'
 }
 
 # The same where the object is damaged.

@@ -26,6 +26,7 @@ class Known(NamedTuple):
     where: str = ""
     advice: str = ""
     cure: Sequence[str] = ()
+    note: str = ""
 
 
 def read_rows() -> List[Row]:
@@ -96,7 +97,8 @@ def sentences(rows, line, command=None, known=None, beside=None):
     anew = filled(row_of(rows, ANEW).happened, {})
     to_do = known.advice or filled(row.to_do, numbers)
     if known.cure and (known.advice or ANEW in to_do):
-        return said + ["what to do: %s:" % to_do, *("    " + command for command in known.cure)]
+        noted = to_do + (". " + known.note if known.note else "")
+        return said + ["what to do: %s:" % noted, *("    " + command for command in known.cure)]
     if to_do == ANEW:
         return said + ["what to do: " + anew]
     said += ["what to do: " + to_do] if to_do else []

@@ -1,7 +1,8 @@
 # What `git cgraph` asks of a repository: its object folders, where its commit-graph is, and what Git makes of it. It reads
 # this file with `.`, after answers.sh. This defines functions, and runs nothing.
 #
-# `objects` is the object folder of the repository, `home` the one in which the commit-graph was found, `folder` the folder
+# `objects` is the object folder of the repository, `own` the one that it keeps (in a hook before new objects are taken, `objects`
+# is a folder that may be thrown away), `common` the folder that its worktrees share, `home` the one in which the commit-graph was found, `folder` the folder
 # `info` there, and `kind` is `file`, `chain` or `none`.
 
 # A text as one word of a shell.
@@ -41,6 +42,8 @@ look_at_repository() {
     info) objects=$(pwd -P) ;;
     *) objects=$(from_root "${info%/info}") || refuse_folder "${info%/info}" ;;
     esac
+    own=$objects
+    [ -z "${GIT_QUARANTINE_PATH-}" ] || own=$common/objects
 }
 
 # Git, which goes by the commits themselves: the commit-graph may be wrong, and it knows neither replacements nor grafts.
@@ -151,20 +154,23 @@ is_scattered() {
 # Makes a folder for files of a moment, `scratch`, if there is none.
 make_scratch() {
     [ -z "$scratch" ] || return 0
-    scratch=$(mktemp -d 2>/dev/null) ||
-        give_up "no folder for files of a moment can be made in '${TMPDIR:-/tmp}': TMPDIR has to name one that may be written"
+    leave_alone
+    scratch=$(mktemp -d 2>/dev/null)
+    made=$?
     look_after
+    [ $made -eq 0 ] ||
+        give_up "no folder for files of a moment can be made in '${TMPDIR:-/tmp}': TMPDIR has to name one that may be written"
 }
 
 # Sees to it that whatever ends this leaves no such folder, and no lock that it made.
 look_after() {
     trap clean_up EXIT
-    for signal in HUP INT TERM; do trap "clean_up; trap - $signal EXIT; kill -$signal \$\$" $signal; done
+    for signal in 1 2 13 15; do trap "trap - EXIT; clean_up; exit $((128 + signal))" $signal; done
 }
 
 # Sees to it that a signal ends nothing for a moment.
 leave_alone() {
-    trap '' HUP INT TERM
+    trap '' HUP INT PIPE TERM
 }
 
 clean_up() {
@@ -179,12 +185,35 @@ remove_locks() {
     single_lock='' chain_lock=''
 }
 
+# Whether the folder for files of a moment takes no more: some file there cannot grow.
+is_scratch_full() {
+    [ -n "$scratch" ] || return
+    for grown in "$scratch"/*; do
+        [ ! -f "$grown" ] || [ -L "$grown" ] || (head -c 8192 /dev/zero >>"$grown") 2>/dev/null || return 0
+    done
+    return 1
+}
+
+# Notes that the folder for files of a moment takes no more.
+refuse_scratch() {
+    line='a file of a moment could not be written to its end' status=128
+    where="it was to stand in the folder '${scratch%/*}'" cure="    df $(quoted "${scratch%/*}")"
+    advice='see whether the disk of this folder is full, or let TMPDIR name another folder'
+    said="$said$name: $line$newline"
+    return 1
+}
+
+# Ends where no file of a moment can be made.
+give_up_scratch() {
+    give_up "no file of a moment can be made in '${scratch%/*}'" 'see whether its disk is full, or let TMPDIR name another folder' \
+        "    df $(quoted "${scratch%/*}")"
+}
+
 # Makes a folder of links to the layers of a chain, as the programs look for them beside the chain file.
 gather_layers() {
     make_scratch
     rm -rf "${scratch:?}/chain"
-    mkdir "$scratch/chain"
-    cp "$(chain_file)" "$scratch/chain/commit-graph-chain"
+    mkdir "$scratch/chain" && cp "$(chain_file)" "$scratch/chain/commit-graph-chain" || ! is_scratch_full || give_up_scratch
     chain_lines | while IFS= read -r layer; do
         ! [ -e "$(layer_path "$layer")" ] || ln -s "$(layer_path "$layer")" "$scratch/chain/graph-$layer.graph"
     done
@@ -246,22 +275,54 @@ has_commits() {
 }
 
 # Whether the commit-graph has changed-path filters, by the table of chunks of its files: those of a chain that its lines name,
-# up to eight, and those that lie beside it.
+# up to eight, and those that lie beside it, also where there is no chain file.
 has_filters() {
-    if [ "$kind" != chain ]; then
+    if [ "$kind" = file ]; then
         is_filtered "$folder/commit-graph"
         return
     fi
     for number in 0 1 2 3 4 5 6 7; do
+        [ "$kind" = chain ] || break
         ! is_filtered "$(layer_file $number)" || return 0
     done
-    for file in "$folder"/commit-graphs/graph-*.graph; do
-        ! is_filtered "$file" || return 0
+    for layer in "$folder"/commit-graphs/graph-*.graph; do
+        ! is_filtered "$layer" || return 0
     done
     return 1
 }
 
 # Whether the table of chunks of a file names filters.
 is_filtered() {
-    head -c 256 "$1" 2>/dev/null | LC_ALL=C grep -aq BDAT
+    head -c 256 "$1" 2>/dev/null | LC_ALL=C grep -aqE 'BDAT|BIDX'
+}
+
+# Whether the files of the commit-graph tell if there are filters.
+tells_filters() {
+    case $kind in
+    none) return 0 ;;
+    file) tells_chunks "$folder/commit-graph" && return ;;
+    esac
+    [ "$kind" = chain ] || return
+    number=0 layers=$(chain_lines | wc -l)
+    [ "$layers" -gt 0 ] || return
+    while [ $number -lt "$layers" ]; do
+        tells_chunks "$(layer_file $number)" || return
+        number=$((number + 1))
+    done
+}
+
+# Whether the table of chunks of a file is whole: so many ids that Git knows as the header says, and zeros at its end.
+tells_chunks() {
+    od -An -v -tu1 -N3200 "$1" 2>/dev/null | LC_ALL=C awk '
+        { for (at = 1; at <= NF; at++) byte[count++] = $at }
+        END {
+            known = " 79.73.68.70 79.73.68.76 67.68.65.84 69.68.71.69 66.65.83.69 71.68.65.50 71.68.79.50 71.68.65.84 71.68.79.86 "
+            if (byte[6] == 0 || count < 8 + 12 * (byte[6] + 1)) exit 1
+            for (chunk = 0; chunk <= byte[6]; chunk++) {
+                start = 8 + 12 * chunk
+                id = byte[start] "." byte[start + 1] "." byte[start + 2] "." byte[start + 3]
+                if (chunk == byte[6] ? id != "0.0.0.0" : !index(known, " " id " ")) exit 1
+            }
+        }
+    '
 }

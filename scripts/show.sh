@@ -51,12 +51,13 @@ with_files() {
 find_coverage() {
     make_scratch
     if ! list_reachable >"$scratch/reachable"; then
-        line='the commits of this repository could not be listed' status=128
+        refuse_listing
     elif ! begin_waiting 'Comparing commits' || ! list_stored >"$scratch/stored" || ! compare_ids; then
-        line='the ids could not be compared' status=128 missing='' unread=yes
+        missing='' unread=yes
+        ! is_scratch_full || refuse_scratch || { end_waiting 'Comparing commits' && return; }
+        line='the ids could not be compared' status=128 said="$said$name: the ids could not be compared$newline"
     fi
     end_waiting 'Comparing commits'
-    [ "$status" -eq 0 ] || said="$said$name: $line$newline"
 }
 
 # Tells that, and what to do, where that is something.
@@ -98,8 +99,7 @@ compare_ids() {
 
 # Says why Git uses no commit-graph here, where that is so.
 say_unused() {
-    [ "$(git config --type=bool core.commitGraph 2>/dev/null)" != false ] ||
-        warn 'Git uses no commit-graph here, since core.commitGraph is false'
+    ! is_unused || warn 'Git uses no commit-graph here, since core.commitGraph is false'
     ! has_replacements ||
         warn 'Git uses no commit-graph here, since some commits are replaced (git replace), unless it is called as git --no-replace-objects'
     ! has_grafts || warn "Git uses no commit-graph here, since '$common/info/grafts' gives commits other parents"
@@ -119,19 +119,27 @@ say_uncovered() {
     *) warn "$gone commits of the commit-graph are gone, for which 'git commit-graph verify' refuses it" ;;
     esac
     [ "$missing,$gone" != 0,0 ] || return 0
-    is_hindered || { advice='write it again' && cure=$(covers); }
-    say "what to do: $advice:"
-    printf '%s\n' "$cure" >&2
+    advise_covering
+    say "what to do: $advice${cure:+:}"
+    [ -z "$cure" ] || printf '%s\n' "$cure" >&2
 }
 
-# The commands that write a commit-graph of all reachable commits, and of no others. With --reachable Git takes what references
-# lead to; where more is reachable, from the HEAD of a worktree, it has to be named.
-covers() {
-    turn_to_own
-    [ "$gone" -eq 0 ] || [ "$kind" = file ] || removes
-    if [ -n "$(plain_git rev-list -n 1 --all --not --glob='refs/*' 2>/dev/null)" ]; then
-        writes | sed 's/^    \(.*\) commit-graph write --reachable/    \1 rev-list --no-walk --all | \1 commit-graph write --stdin-commits/'
+# Sets `advice` and `cure`: how a commit-graph of all reachable commits is written, and of no others.
+advise_covering() {
+    file=''
+    look_for_foreign
+    look_for_filters
+    if is_hindered; then
+        :
+    elif [ -n "$foreign" ]; then
+        advise_own 'write it again'
     else
-        writes
+        advice='write it again' cure=$(covers)
     fi
+}
+
+# The commands for that in this repository. In a chain the layers stay as they are, and commits that are gone with them.
+covers() {
+    [ "$gone" -eq 0 ] || [ "$kind" = file ] || removes_chain
+    writes "$(splits)"
 }

@@ -13,7 +13,7 @@ write_graph() {
     graphtool=$program
     find_program historytool || leave "$line"
     historytool=$program target=${named:-$objects} status=0 line='' said='' dropped=''
-    is_used && is_object_folder && name_files && take_locks || return 0
+    is_taken && is_used && is_object_folder && name_files && take_locks || return 0
     make_scratch
     find_graph
     if [ -n "$split" ]; then write_layer; else write_file; fi
@@ -33,37 +33,45 @@ refuse_writing() {
     fail 'the commit-graph could not be written' "$@"
 }
 
+# Whether what is written stays. In a hook that runs before new objects are taken, they are in a folder that may be thrown away.
+is_taken() {
+    [ -z "${GIT_QUARANTINE_PATH-}" ] || ! [ "$target" -ef "$GIT_QUARANTINE_PATH" ] ||
+        refuse_writing "in this hook new objects are not taken yet, and lie in '$target', which may be thrown away" \
+            'write it in a post-receive hook, which runs when they are taken'
+}
+
 # Whether Git uses a commit-graph here. Else it writes none.
 is_used() {
-    if [ "$(git config --type=bool core.commitGraph 2>/dev/null)" = false ]; then
-        refuse_unused 'core.commitGraph is false' 'write it all the same' '-c core.commitGraph=true cgraph write'
+    if is_unused; then
+        refuse_unused 'core.commitGraph is false' 'write it all the same' '-c core.commitGraph=true'
     elif [ "$is_shallow" != false ]; then
-        refuse_unused 'this repository is shallow' 'fetch the whole history, and write it' 'cgraph write' 'fetch --unshallow'
+        refuse_unused 'this repository is shallow' 'fetch the whole history, and write it' '' 'fetch --unshallow'
     elif has_grafts; then
         refuse_unused "'$common/info/grafts' gives commits other parents" 'make replacements of them, and write it' \
-            '--no-replace-objects cgraph write' 'replace --convert-graft-file'
+            --no-replace-objects 'replace --convert-graft-file'
     elif [ -z "${GIT_NO_REPLACE_OBJECTS-}" ] && has_replacements; then
-        refuse_unused 'some commits are replaced (git replace)' 'write it without the replacements' \
-            '--no-replace-objects cgraph write'
+        refuse_unused 'some commits are replaced (git replace)' 'write it without the replacements' ''
     fi
 }
 
-# Notes that Git uses none, and the words of the command of Git by which it is written, after another one if there is one.
+# Notes that Git uses none, and the words after `git` with which it is written, after another command if there is one.
 refuse_unused() {
-    fail 'Git uses no commit-graph here' "the reason is that $1" "$2" \
-        "${4:+    $(git_here) $4$newline}    $(git_here) $3${split:+ --split}"
+    look_for_links
+    advice=$2
+    tell_links
+    fail 'Git uses no commit-graph here' "the reason is that $1" "$advice" \
+        "${4:+    $(git_here) $4$newline}${links:+    rm -f $links$newline}    $(git_with "$3") cgraph write${split:+ --split}"
 }
 
 # Whether the folder that is named is one of those in which Git looks for objects.
 is_object_folder() {
     [ -n "$named" ] || return 0
     eval "set -- $(named='' && look_for_folders && printf %s "$folders")"
-    lines=''
     for place in "$@"; do
         [ ! "$place" -ef "$named" ] || return 0
-        lines="$lines${lines:+$newline}    $(git_here) cgraph write${split:+ --split} --object-dir=$(quoted "$place")"
     done
-    refuse_writing "'$named' is none of the object folders of this repository" 'name one that is' "$lines"
+    refuse_writing "'$named' is none of the object folders of this repository" "write to this repository's own" \
+        "    $(git_there) cgraph write${split:+ --split}"
 }
 
 # Writes a commit-graph of one file.
@@ -71,27 +79,41 @@ write_file() {
     kept=0 base=0 below=''
     if has_filters; then
         [ -z "$keep_filters" ] || refuse_filters || return
-        dropped="the changed-path filters of the commit-graph are dropped: '$(writes_filters '')' writes it with filters"
+        dropped='the changed-path filters of the commit-graph are dropped'
     fi
     begin_new && ln -s "$single.lock" "$scratch/new/commit-graph" &&
         make_file list_referenced '' && check_new new/commit-graph && exchange_file
 }
 
 # The command by which Git writes filters, with an option or none.
-writes_filters() {
-    printf '%s commit-graph write --reachable' "$(git_there)"
-    [ -z "$named" ] || printf ' --object-dir=%s' "$(quoted "$named")"
-    printf '%s --changed-paths' "$1"
+filters_by_git() {
+    printf '    %s commit-graph write --reachable%s --changed-paths' "$(git_there)" "$1"
 }
 
+# Notes that nothing is written, since filters would go.
 refuse_filters() {
-    fail 'the commit-graph has changed-path filters' '' 'have Git write it, which keeps them' \
-        "    $(writes_filters "${split:+ --split}")"
+    if is_own "$target/info"; then
+        fail 'the commit-graph has changed-path filters' '' 'have Git write it, which keeps them' "$(filters_by_git "${split:+ --split}")"
+    else
+        fail 'the commit-graph has changed-path filters' '' "ask whoever keeps '$target' to have Git write it, which keeps them"
+    fi
+}
+
+# Says which filters are not there any more, and how Git writes them in this repository.
+tell_dropped() {
+    warn "$dropped"
+    if is_own "$target/info" && is_own "$single"; then
+        advice='have Git write it again, with filters' cure=$(filters_by_git "${split:+ --split=replace}")
+    else
+        advice="ask whoever keeps '$target' to have Git write it again, with filters"
+    fi
+    say "what to do: $advice${cure:+:}"
+    [ -z "$cure" ] || printf '%s\n' "$cure" >&2
 }
 
 # Begins a folder of links, in which the programs find what is written, and the layers below it.
 begin_new() {
-    mkdir "$scratch/new" && : >"$scratch/new/commit-graph-chain" || refuse_writing 'no file of a moment can be made'
+    mkdir "$scratch/new" && : >"$scratch/new/commit-graph-chain" || refuse_unread 'no file of a moment can be made'
 }
 
 # Writes a layer of the commits that the commit-graph lacks, on top of the `kept` lowest layers. The others are taken in.
@@ -110,7 +132,7 @@ write_layer() {
 
 tell_unfiltered() {
     [ -z "$keep_filters" ] || refuse_filters || return
-    dropped="the new layer has no changed-path filters: '$(writes_filters ' --split=replace')' writes all of them anew"
+    dropped='the new layer has no changed-path filters'
 }
 
 # Notes how many commits each layer that stands has, and its checksum, the lowest first. Both programs have to find them right:
@@ -122,7 +144,7 @@ read_layers() {
     case $? in
     0) awk '/^layer / { commits = $4 } /^checksum / { print commits, $2 }' "$scratch/shown" >"$scratch/layers" ;;
     1) line=$(tail -n 1 "$scratch/shown") status=1 && return 1 ;;
-    *) refuse_writing 'the layers that stand could not be read' ;;
+    *) refuse_unread 'the layers that stand could not be read' ;;
     esac
 }
 
@@ -150,7 +172,7 @@ find_new() {
         0) count=$(($(wc -l <"$scratch/new-ids"))) && return ;;
         3) ;;
         *)
-            [ -n "$line" ] || refuse_writing 'the ids could not be compared'
+            [ -n "$line" ] || refuse_unread 'the ids could not be compared'
             return 1
             ;;
         esac
@@ -200,7 +222,7 @@ take_in() {
     in_place "$historytool" ids "$graph" "$base" "$total" >"$scratch/taken" &&
         git_alone cat-file --batch-check='%(objectname) %(objecttype)' --buffer <"$scratch/taken" >"$scratch/types" &&
         sed -n 's/ commit$//p' "$scratch/types" >>"$scratch/new-ids" && LC_ALL=C sort -u -o "$scratch/new-ids" "$scratch/new-ids" ||
-        refuse_writing 'the layers that stand could not be read'
+        refuse_unread 'the layers that stand could not be read'
 }
 
 list_new() {
@@ -234,7 +256,7 @@ link_layers() {
     number=0
     for checksum in $(checksums "$kept"); do
         ln -s "$(layer_file $number)" "$scratch/new/graph-$checksum.graph" &&
-            echo "$checksum" >>"$scratch/new/commit-graph-chain" || refuse_writing 'no file of a moment can be made' || return
+            echo "$checksum" >>"$scratch/new/commit-graph-chain" || refuse_unread 'no file of a moment can be made' || return
         number=$((number + 1))
     done
 }
@@ -247,7 +269,7 @@ add_layer() {
     esac
     checksum=$(tail -c $size "$single.lock" | od -An -v -tx1 | tr -d ' \n')
     ln -s "$single.lock" "$scratch/new/graph-$checksum.graph" && echo "$checksum" >>"$scratch/new/commit-graph-chain" ||
-        refuse_writing 'no file of a moment can be made'
+        refuse_unread 'no file of a moment can be made'
 }
 
 # Makes a file of the commits that a command lists, on top of the layers at a path of the folder of a moment, or of none.
@@ -280,9 +302,14 @@ ended() {
     echo "${number:-128}"
 }
 
-# Whether a file was made, by the statuses of the list, of `tee`, of Git and of the program. Where the list ended early, the others
+# Whether a file was made, by the statuses of the list, of `tee`, of Git and of the program. The signal by which a process ends
+# whose file is larger than it may be makes 153. Where the list ended early, the others
 # had a part of it. A program that ended since nobody read on (141) is not the one that failed.
 judge_file() {
+    case $2,$4 in
+    153,*) refuse_scratch || return ;;
+    *,153) refuse_full "$single.lock" || return ;;
+    esac
     for ended in "$@"; do
         ! is_signal "$ended" || end_by_signal "$ended" || return
     done
@@ -291,7 +318,7 @@ judge_file() {
     0,*,1 | 141,*,1) judge_refused ;;
     *,141,0) refuse_writing 'historytool write did not read all commits' ;;
     0,0,*,0) fail "git cat-file ended with status $3" ;;
-    0,[1-9],*) refuse_full "$scratch" ;;
+    0,[1-9],*) refuse_scratch ;;
     0,* | 141,*) refuse_full "$single.lock" ;;
     *) refuse_listing ;;
     esac
@@ -324,8 +351,14 @@ report_nothing() {
     warn "$1: nothing is written"
 }
 
+# Notes that Git could not list the commits, or that there was no room for the list.
 refuse_listing() {
-    fail 'the commits of this repository could not be listed'
+    if is_scratch_full; then refuse_scratch; else fail 'the commits of this repository could not be listed'; fi
+}
+
+# Notes that nothing is written, for a reason, or since there was no room for files of a moment.
+refuse_unread() {
+    if is_scratch_full; then refuse_scratch; else refuse_writing "$@"; fi
 }
 
 # Whether both programs find right what is written, at a path of the folder of a moment, and with all of its commits. Meanwhile the
@@ -340,7 +373,7 @@ check_new() {
     in_place "$historytool" check "$1" >"$scratch/checked"
     checked=$?
     if ! wait $verifying || [ $checked -ne 0 ] || ! has_all verified || ! has_all checked; then
-        refuse_writing "what was written is refused: $(cat "$scratch/verified" "$scratch/checked" | sed -n '/^refused/{p;q;}')"
+        refuse_unread "what was written is refused: $(cat "$scratch/verified" "$scratch/checked" | sed -n '/^refused/{p;q;}')"
     elif ! wait $syncing; then
         refuse_full "$single.lock"
     fi
@@ -357,7 +390,7 @@ tell_written_file() {
     text="ok commits $count"
     [ -z "$split" ] || [ "$count" -eq 0 ] || text="$text layers $((kept + 1))"
     [ -n "$quiet" ] || write_text "$text"
-    [ -z "$dropped" ] || [ "$count" -eq 0 ] || warn "$dropped"
+    [ -z "$dropped" ] || [ "$count" -eq 0 ] || tell_dropped
 }
 
 # Sets what `report` says of a refusal, and `is_absent` where nothing is wrong with the commits, as far as one knows.
@@ -379,8 +412,15 @@ diagnose_write() {
     esac
 }
 
+# Sets what to do where the layers that stand are not right, or are too many.
 write_one_file() {
-    advice='write it anew as one file' cure="    $(git_here) cgraph write"
+    look_for_foreign
+    look_for_filters
+    if [ -n "$foreign" ]; then
+        advise_own 'mend it'
+    else
+        advice='write it anew as one file' cure=$(writes_own '')
+    fi
 }
 
 # Sets `commit` to the one of which a refusal speaks by its number. The answer is false where there is none of this number.

@@ -11,13 +11,13 @@ import sys
 sys.path.insert(0, os.path.dirname(os.path.dirname(os.path.abspath(__file__))))
 
 from results import Results
-from wrappers import commits, completions, coverage, installs, json_answers, packages, questions, releases, repositories, sentences, tools, writes
+from wrappers import commits, completions, coverage, installs, json_answers, packages, pasted, questions, releases, repositories, sentences, tools, writes
 
 
 def main():
     """Runs the checks, and answers the exit status."""
     results = Results()
-    for part in (tools, sentences, questions, repositories, commits, coverage, writes, json_answers, installs, completions, packages, releases):
+    for part in (tools, sentences, questions, repositories, commits, coverage, writes, pasted, json_answers, installs, completions, packages, releases):
         part.check_all(results)
     return results.finish()
 

@@ -12,8 +12,9 @@ PROGRAMS = ("graphtool", "historytool")
 COPIED = (
     *("git-cgraph", "graphtool", "historytool", "VERSION", "docs/MANUAL.md", "docs/REFUSALS.md"),
     *("docs/PROGRAMS.md", "scripts/programs.awk", "scripts/completions.awk"),
-    *("scripts/answers.sh", "scripts/usage.sh", "scripts/repository.sh", "scripts/cures.sh", "scripts/commands"),
+    *("scripts/answers.sh", "scripts/usage.sh", "scripts/repository.sh", "scripts/anew.sh", "scripts/cures.sh", "scripts/commands"),
     *("scripts/json.sh", "scripts/progress.sh", "scripts/objects.sh", "scripts/show.sh", "scripts/locks.sh", "scripts/write.sh"),
+    *("scripts/guard.sh", "scripts/question.sh"),
     "scripts/new_commits.awk",
     *("scripts/json.awk", "scripts/fields", "scripts/fields.awk", "scripts/explain.awk", "scripts/manual.awk", "scripts/alternates.awk"),
     *("scripts/install", "scripts/program", "scripts/library", "scripts/package", "bindings/c/commitgraph.h"),

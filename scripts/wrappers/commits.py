@@ -50,10 +50,11 @@ REFUSED = {
 """What `objects` may answer, and the status of `git cgraph` then."""
 
 DAMAGED = "see which objects are damaged, and take them from another copy of the repository"
-GONE = (
-    "where no branch leads to it, Git removed it: write the commit-graph anew. Where Git says then that it is missing, take it "
-    "from another copy of the repository"
+LOST = (
+    "the commit is missing, and has to come back: take it from another copy of the repository, and ask again. Keep the commit-graph, "
+    "which may have the last record of its parents"
 )
+GONE = "no reference and no HEAD leads to the commit, so that Git removed it: write the commit-graph anew, without it"
 PARTIAL = "this is a partial clone, in which the commit is not here, and nothing was fetched: let Git fetch it, and ask again"
 SHALLOW = "this repository is shallow, and the commit lies past its end: fetch the whole history, and ask again"
 WRITTEN = "the commit-graph was written anew meanwhile"
@@ -250,9 +251,9 @@ def check_objects(results, compared):
     err = said(start + refusals.sentences(rows, line, "verify", refusals.Known("", "see what Git says, and ask again")))
     results.check("git cgraph verify --objects, an object that is there again", exactly(compared.ask(), 128, line + "\n", err))
     os.rename(path, path + " aside")
-    known = refusals.Known("", GONE, anew(compared.info, "commit-graph"))
+    known = refusals.Known("", LOST, ["git fsck"])
     err = said(start + refusals.sentences(rows, line, "verify", known))
-    results.check("git cgraph verify --objects, an object that is gone", exactly(compared.ask(), 1, line + "\n", err))
+    results.check("git cgraph verify --objects, an object that is lost", exactly(compared.ask(), 1, line + "\n", err))
     with open(path, "wb"):
         pass
     known = refusals.Known("the object is '%s'" % path, DAMAGED, ["git fsck"])
@@ -260,6 +261,22 @@ def check_objects(results, compared):
     right = answer[:2] == (1, line + "\n") and answer.err.endswith(said(start + refusals.sentences(rows, line, "verify", known)))
     results.check("git cgraph verify --objects, an object that is empty", None if right else "it is %r" % (answer,))
     os.rename(path + " aside", path)
+    check_gone(results, compared)
+
+
+def check_gone(results, compared):
+    """A commit to which nothing leads, and which is gone."""
+    line, commit = "refused objects 4 position %d" % COUNT, "f" * 40
+    with open(compared.list, "a", encoding="ascii") as file:
+        file.write(commit + "\n")
+    compared.put(objects="echo '%s'; exit 1" % line)
+    answer = compared.ask()
+    with open(compared.list, "w", encoding="ascii") as file:
+        file.write("".join(commit + "\n" for commit in compared.ids))
+    known = refusals.Known("", GONE, anew(compared.info, "commit-graph"))
+    sentences = refusals.sentences(refusals.read_rows(), line, "verify", known)
+    err = said(["the commit at position %d is %s" % (COUNT, commit), *sentences])
+    results.check("git cgraph verify --objects, an object that is gone", exactly(answer, 1, line + "\n", err))
 
 
 def check_partial(results, compared):

@@ -132,14 +132,15 @@ def check_more(results, shown):
 def check_refused(results, shown):
     """A commit-graph that is refused is shown all the same, and the refusal comes at last."""
     path, rows = os.path.join(shown.info, "commit-graph"), refusals.read_rows()
+    cure = [anew(shown.info, "commit-graph")[0], NAMES_TIPS]
     for line, status in (("refused verify 4 layer 0 fault 1", 1), ("refused filters 8 layer 0", 1), ("refused verify 10", 128)):
         shown.put(LAYER % (0, 0) + WHOLE % 1 + line + "\n", 1)
-        known = refusals.Known("the file is '%s'" % path if "layer" in line else "", "", anew(shown.info, "commit-graph"))
+        known = refusals.Known("the file is '%s'" % path if "layer" in line else "", "", cure)
         err = said(refusals.sentences(rows, line, "show", known))
         results.check("git cgraph show, %s" % line, exactly(shown.ask(), status, lines_of(path, line + "\n"), err))
         results.check("git cgraph show -q, %s" % line, exactly(shown.ask("-q"), status, "", err))
     shown.put("refused open 5 layer 0 file 1\n", 1)
-    known = refusals.Known("the file is '%s'" % path, "", anew(shown.info, "commit-graph"))
+    known = refusals.Known("the file is '%s'" % path, "", cure)
     err = said(refusals.sentences(rows, "refused open 5 layer 0 file 1", "show", known))
     results.check("git cgraph show, of no layer", exactly(shown.ask(), 1, "refused open 5 layer 0 file 1\n", err))
 

@@ -394,7 +394,7 @@ def check_warnings(results, clone, repository):
     (last,) = objects_in(answer.out)
     said = [line[len("git cgraph: ") :] for line in plain.err.splitlines()[:2]]
     right = answer[::2] == plain[::2] and last["warnings"] == [": ".join(said)] and "error" not in last
-    right = right and last["walk"] is None and last["advice"] == "write it anew" and len(last["cure"]) == 2
+    right = right and last["walk"] is None and last["advice"].startswith("write it anew. Nothing tells") and len(last["cure"]) == 2
     results.check("git cgraph walk --json, of commits in two layers", None if right else "it is %r" % (answer,))
 
 

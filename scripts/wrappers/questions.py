@@ -69,6 +69,10 @@ STATUSES = [
 ]
 """A word, the line and the status of its program, and the status of `git cgraph`."""
 
+TABLE = "".join(name + "\0" * 8 for name in ("OIDF", "OIDL", "CDAT", "\0\0\0\0"))
+CONTENT = "CGPH\1\1\3\0" + TABLE
+"""A header and a table of chunks, by which there are no filters."""
+
 NEWER = "if the commit is newer than the commit-graph, write that again"
 
 
@@ -102,7 +106,7 @@ def make_repository(clone, path):
     git(clone, path, "tag", "tree", "HEAD^{tree}")
     os.mkdir(os.path.join(path, b"sub"))
     with open(os.path.join(path, b".git/objects/info/commit-graph"), "w", encoding="ascii") as file:
-        file.write("content")
+        file.write(CONTENT)
     return path
 
 
@@ -131,7 +135,8 @@ def said(sentences):
 
 def anew(folder, name, *options):
     """The commands that write the commit-graph of an info folder anew, where it has this name."""
-    return ["rm -rf '%s/%s'" % (folder.replace("'", "'\\''"), name), " ".join(["git commit-graph write --reachable", *options])]
+    remove = "rm -rf" if name.endswith("s") else "rm -f"
+    return ["%s '%s/%s'" % (remove, folder.replace("'", "'\\''"), name), " ".join(["git commit-graph write --reachable", *options])]
 
 
 def check_words(results, clone):
@@ -198,9 +203,10 @@ def check_questions(results, clone, repository, shell):
         for way, answer in ways.items():
             complaint = None if answer == expected else "it is %r" % (answer,)
             results.check("%s git-cgraph %s %s" % (" ".join(shell), word, way), complaint)
-    clone.put_program("graphtool", "cat\nprintf '<%s>' \"$@\"\n")
+    clone.put_program("graphtool", "tr '\\0\\1\\3' '013'\nprintf '<%s>' \"$@\"\n")
     answer = ask(clone, ["list"], sub, shell)
-    results.check("%s git-cgraph list" % " ".join(shell), exactly(answer, 0, "content<list>"))
+    content = "".join(str(ord(letter)) if letter < " " else letter for letter in CONTENT)
+    results.check("%s git-cgraph list" % " ".join(shell), exactly(answer, 0, content + "<list>"))
     clone.put_program("historytool", "cat\nprintf '<%s>' \"$@\"\n")
     answer = ask(clone, ["ask", "--no-progress"], sub, shell, input=b"a question\n\nanother")
     results.check("%s git-cgraph ask" % " ".join(shell), exactly(answer, 0, "a question\n\nanother<ask><info>"))
@@ -251,6 +257,8 @@ def check_repeated(results, clone, repository):
     os.rename(os.path.join(info, b"commit-graph"), os.path.join(info, b"aside"))
     os.mkdir(os.path.join(info, b"commit-graphs"))
     chain = os.path.join(info, b"commit-graphs", b"commit-graph-chain")
+    for layer in (b"aa", b"bb"):
+        shutil.copy(os.path.join(info, b"aside"), os.path.join(info, b"commit-graphs/graph-%s.graph" % layer))
     folder, rows = info.decode("utf-8", "surrogateescape"), refusals.read_rows()
     differs = "the answer may differ from Git's"
     twice, right = "echo 'refused verify 11 position 3 earlier 1'\nexit 1\n", "echo 'ok commits 4 longest 2'\n"
@@ -336,6 +344,10 @@ def check_ends(results, clone, repository):
     for number in (signal.SIGINT, signal.SIGTERM, signal.SIGHUP):
         results.check("git cgraph, sent %s" % number.name, interrupted(clone, repository, number))
     results.check("git cgraph, ended by itself", ended_alone(clone, repository))
+    for word in ("verify", "list", "ask", "show"):
+        for number in (signal.SIGINT, signal.SIGTERM, signal.SIGPIPE):
+            complaint = git_ended(clone, repository, word, number)
+            results.check("git cgraph %s, %s to the process git alone" % (word, number.name), complaint)
 
 
 def interrupted(clone, repository, number):
@@ -363,13 +375,44 @@ def ended_alone(clone, repository):
     return None if right else "status %d, %r and %r" % (running.returncode, out, err)
 
 
-def start(clone, repository, lines):
+def git_ended(clone, repository, word, number):
+    """A complaint where something runs on, or is left over, after a signal to Git, of which the script is a child."""
+    handlers = [(one, signal.signal(one, signal.SIG_DFL)) for one in (signal.SIGINT, signal.SIGPIPE)]
+    lines = "echo $$ >'%s'\nexec sleep 30\n" % os.path.join(clone.folder, "process")
+    with start(clone, repository, lines, ["git", "cgraph", word]) as running:
+        while not os.path.exists(os.path.join(clone.folder, "process")):
+            time.sleep(0.01)
+        running.send_signal(number)
+        out, err = running.communicate()
+    for one, handler in handlers:
+        signal.signal(one, handler)
+    time.sleep(0.1)
+    with open(os.path.join(clone.folder, "process"), encoding="ascii") as file:
+        runs = is_running(file.read().strip())
+    os.remove(os.path.join(clone.folder, "process"))
+    right = running.returncode == -number and not out and not err and not runs and not clone.left_over()
+    return None if right else "status %d, %r and %r, it runs: %s" % (running.returncode, out, err, runs)
+
+
+def is_running(process):
+    """Whether a process runs, and has not merely ended unnoticed."""
+    try:
+        with open("/proc/%s/stat" % process, encoding="ascii") as file:
+            return file.read().rsplit(") ", 1)[1][0] not in "ZX"
+    except OSError:
+        return False
+
+
+def start(clone, repository, lines, command=None):
     """A run of `git cgraph` whose program has started with some lines of a shell script."""
     started = os.path.join(clone.folder, "started")
-    clone.put_program("graphtool", "echo started >'%s'\n%s\n" % (started, lines))
-    command = [os.path.join(clone.folder, "git-cgraph"), "verify"]
+    for program in ("graphtool", "historytool"):
+        clone.put_program(program, "echo started >'%s'\n%s\n" % (started, lines))
+    command = command or [os.path.join(clone.folder, "git-cgraph"), "verify"]
+    variables = clone.surroundings()
+    variables["PATH"] = clone.folder + ":" + variables["PATH"]
     quiet = {"stdin": subprocess.DEVNULL, "stdout": subprocess.PIPE, "stderr": subprocess.PIPE}
-    running = subprocess.Popen(command, env=clone.surroundings(), cwd=repository, start_new_session=True, **quiet)
+    running = subprocess.Popen(command, env=variables, cwd=repository, start_new_session=True, **quiet)
     while not os.path.exists(started):
         time.sleep(0.01)
     os.remove(started)

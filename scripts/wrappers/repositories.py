@@ -6,13 +6,13 @@ import tempfile
 
 import refusals
 from wrappers.clone import Clone, exactly
-from wrappers.questions import ask, git, make_repository, said
+from wrappers.questions import CONTENT, anew, ask, git, make_repository, said
 
 LISTS = 'printf "<%s>" "$@"\n[ "$2" != chain ] || { echo; cat "$2/commit-graph-chain"; readlink "$2"/graph-*; }\npwd -P\n'
 """A program that writes its words, the chain file and the targets of the links that it is given, and its folder."""
 
 NAMES = ("aa" * 20, "bb" * 20)
-HEADS = {"sha1": b"CGPH\1\1\0\0", "sha256": b"CGPH\1\2\0\0"}
+HEADS = {"sha1": CONTENT.encode(), "sha256": CONTENT.replace("\1\1", "\1\2").encode()}
 
 
 class Repository:
@@ -98,8 +98,8 @@ def check_sentences(results, own, path):
     own.clone.put_program("historytool", "echo 'unknown 2'\nexit 1\n")
     for words, line, said in (
         (("list",), "refused file 2", "git cgraph: the file is '%s'\n" % path),
-        (("verify",), "refused verify 2 layer 0", "git cgraph: what to do: write it anew:\n"),
-        (("is-ancestor", "HEAD", "HEAD"), "unknown 2", "write that again:\n    git commit-graph write --reachable\n"),
+        (("verify",), "refused verify 2 layer 0", "git cgraph: what to do: '%s' is not this repository's own: " % path),
+        (("is-ancestor", "HEAD", "HEAD"), "unknown 2", "which these commands write:\n    git commit-graph write --reachable\n"),
     ):
         answer = own.ask(*words, ANSWER=line)
         right = answer.out == line + "\n" and said in answer.err
@@ -126,7 +126,7 @@ def check_moved(results, own, _other):
     own.clone.put_program("graphtool", "echo 'refused verify 1'\nexit 1\n")
     folder = os.path.realpath(os.fsdecode(own.folder))
     for place, by in ((folder, "git"), (os.path.dirname(folder), "git --git-dir='%s/.git'" % folder), ("", "git")):
-        cure = ["rm -rf '%s/.git/objects/info/commit-graph'" % folder, by + " commit-graph write --reachable"]
+        cure = ["rm -f '%s/.git/objects/info/commit-graph'" % folder, by + " commit-graph write --reachable"]
         err = said(refusals.sentences(refusals.read_rows(), "refused verify 1", "verify", refusals.Known("", "", cure)))
         answer = own.ask("verify", PWD=place)
         results.check("git cgraph verify, asked from %r" % place, exactly(answer, 1, "refused verify 1\n", err))
@@ -198,11 +198,6 @@ def check_refused(results, own, _other):
     err = said(refusals.sentences(rows, "refused git 2 line 0", "verify", known))
     answer = own.ask("verify")
     results.check("git cgraph verify, of lines that end with CR", exactly(answer, 1, "refused git 2 line 0\n", err))
-
-
-def anew(folder, name, *options):
-    """The commands that write the commit-graph of an info folder anew, where it has this name."""
-    return ["rm -rf '%s/%s'" % (folder, name), " ".join(["git commit-graph write --reachable", *options])]
 
 
 def check_quiet(results, own, _other):
