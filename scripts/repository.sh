@@ -1,9 +1,9 @@
 # What `git cgraph` asks of a repository: its object folders, where its commit-graph is, and what Git makes of it. It reads
 # this file with `.`, after answers.sh. This defines functions, and runs nothing.
 #
-# `objects` is the object folder of the repository, `own` the one that it keeps (in a hook before new objects are taken, `objects`
-# is a folder that may be thrown away), `common` the folder that its worktrees share, `home` the one in which the commit-graph was found, `folder` the folder
-# `info` there, and `kind` is `file`, `chain` or `none`.
+# `objects` is the object folder of the repository, and `own` the one that it keeps: in a hook before new objects are taken,
+# `objects` is a folder that may be thrown away. `common` is the folder that its worktrees share, `home` the object folder in
+# which the commit-graph was found, `folder` the folder `info` there, and `kind` is `file`, `chain` or `none`.
 
 # A text as one word of a shell.
 quoted() {
