@@ -1,9 +1,9 @@
 # What `git cgraph` asks of a repository: its object folders, where its commit-graph is, and what Git makes of it. It reads
 # this file with `.`, after answers.sh. This defines functions, and runs nothing.
 #
-# `objects` is the object folder of the repository, `own` the one that it keeps (in a hook before new objects are taken, `objects`
-# is a folder that may be thrown away), `common` the folder that its worktrees share, `home` the one in which the commit-graph was found, `folder` the folder
-# `info` there, and `kind` is `file`, `chain` or `none`.
+# `objects` is the object folder of the repository, and `own` the one that it keeps: in a hook before new objects are taken,
+# `objects` is a folder that may be thrown away. `common` is the folder that its worktrees share, `home` the object folder in
+# which the commit-graph was found, `folder` the folder `info` there, and `kind` is `file`, `chain` or `none`.
 
 # A text as one word of a shell.
 quoted() {
@@ -293,7 +293,7 @@ has_filters() {
 
 # Whether the table of chunks of a file names filters.
 is_filtered() {
-    head -c 256 "$1" 2>/dev/null | LC_ALL=C grep -aqE 'BDAT|BIDX'
+    [ -f "$1" ] && head -c 256 "$1" 2>/dev/null | LC_ALL=C grep -aqE 'BDAT|BIDX'
 }
 
 # Whether the files of the commit-graph tell if there are filters.
@@ -313,7 +313,7 @@ tells_filters() {
 
 # Whether the table of chunks of a file is whole: so many ids that Git knows as the header says, and zeros at its end.
 tells_chunks() {
-    od -An -v -tu1 -N3200 "$1" 2>/dev/null | LC_ALL=C awk '
+    [ -f "$1" ] && od -An -v -tu1 -N3200 "$1" 2>/dev/null | LC_ALL=C awk '
         { for (at = 1; at <= NF; at++) byte[count++] = $at }
         END {
             known = " 79.73.68.70 79.73.68.76 67.68.65.84 69.68.71.69 66.65.83.69 71.68.65.50 71.68.79.50 71.68.65.84 71.68.79.86 "

@@ -121,7 +121,12 @@ def check_forks(results, kind, place, origin):
         check_right(results, "a clone, %s, %s" % (name, kind), place.at(name))
     fork = place.at("fork")
     fork.git("commit-graph", "write", "--reachable", "--split")
-    check_refused(results, "a fork over the origin, " + kind, fork, os.path.join(os.path.realpath(origin), "objects/info/commit-graph"))
+    path = os.path.join(os.path.realpath(origin), "objects/info/commit-graph")
+    content = read_bytes(path)
+    check_refused(results, "a fork over the origin, " + kind, fork, path)
+    left = read_bytes(path) == content[:-1] + bytes([content[-1] ^ 1])
+    results.check("git cgraph in a fork, the origin's file is left as it was, " + kind, None if left else "it is another one")
+    write_bytes(path, content)
     named = fork.ask("verify", "--object-dir", origin + "/objects")
     results.check("git cgraph verify --object-dir, " + kind, None if named.status == 0 else "it is %r" % (named,))
 
