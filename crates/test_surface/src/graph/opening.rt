@@ -1,0 +1,94 @@
+//! Opening a graph by a path, over the file system and over any folder.
+
+use crate::bounds;
+use gix_commitgraph::opening::{self, OpenError, Standing, path};
+use gix_commitgraph::{FileError, Graph, GraphError};
+use graph_folder::folder::{Folder, ReadError};
+use std::alloc::{AllocError, AllocFailed, Global};
+use std::rt::Files;
+
+fn at_root<R: Files>(rt: &R, alloc: Global, path: &str) -> Result<Graph, OpenError> {
+    gix_commitgraph::at(rt, alloc, path)
+}
+
+fn at<R: Files>(rt: &R, alloc: Global, path: &str) -> Result<Graph, OpenError> {
+    Graph::at(rt, alloc, path)
+}
+
+fn from_file<R: Files>(rt: &R, alloc: Global, path: &str) -> Result<Graph, OpenError> {
+    Graph::from_file(rt, alloc, path)
+}
+
+fn from_info_dir<R: Files>(rt: &R, alloc: Global, path: &str) -> Result<Graph, OpenError> {
+    Graph::from_info_dir(rt, alloc, path)
+}
+
+fn from_commit_graphs_dir<R: Files>(rt: &R, alloc: Global, path: &str) -> Result<Graph, OpenError> {
+    Graph::from_commit_graphs_dir(rt, alloc, path)
+}
+
+fn in_folder<T: Folder>(alloc: Global, folder: &mut T, path: &str) -> Result<Graph, OpenError> {
+    opening::open_in(alloc, folder, path)
+}
+
+fn file_in<T: Folder>(alloc: Global, folder: &mut T, path: &str) -> Result<Graph, OpenError> {
+    opening::open_file_in(alloc, folder, path)
+}
+
+fn info_dir_in<T: Folder>(alloc: Global, folder: &mut T, path: &str) -> Result<Graph, OpenError> {
+    opening::open_info_dir_in(alloc, folder, path)
+}
+
+fn chain_dir_in<T: Folder>(alloc: Global, folder: &mut T, path: &str) -> Result<Graph, OpenError> {
+    opening::open_chain_dir_in(alloc, folder, path)
+}
+
+fn stands_at<T: Folder>(alloc: Global, folder: &mut T, path: &str) -> Result<Standing, AllocError> {
+    opening::stands_at(alloc, folder, path)
+}
+
+fn standings(standing: Standing) {
+    bounds::plain::<Standing>();
+    match standing {
+        Standing::File | Standing::ChainDir | Standing::InfoDir | Standing::Nothing => {}
+    }
+}
+
+fn is_settled<A>(answer: &Result<A, OpenError>) -> bool {
+    opening::is_settled(answer)
+}
+
+fn join(alloc: Global, folder: &str, name: &str) -> Result<String, AllocError> {
+    path::join(alloc, folder, name)
+}
+
+fn info_file_path(alloc: Global, folder: &str) -> Result<String, AllocError> {
+    path::info_file_path(alloc, folder)
+}
+
+fn info_chain_path(alloc: Global, folder: &str) -> Result<String, AllocError> {
+    path::info_chain_path(alloc, folder)
+}
+
+fn chain_path(alloc: Global, folder: &str) -> Result<String, AllocError> {
+    path::chain_path(alloc, folder)
+}
+
+fn layer_path(alloc: Global, folder: &str, line: &str) -> Result<String, AllocError> {
+    path::layer_path(alloc, folder, line)
+}
+
+fn open_errors<T: Drop>(error: &OpenError) {
+    bounds::error::<OpenError>();
+    bounds::from::<AllocError, OpenError>();
+    bounds::from::<AllocFailed<T>, OpenError>();
+    bounds::from::<ReadError, OpenError>();
+    bounds::from::<GraphError, OpenError>();
+    use OpenError::*;
+    match error {
+        NothingFound | NotOpened | Device | OutOfMemory => {}
+        ChainNotText { line } => bounds::of_type::<usize>(line),
+        Layer { layer, error } => bounds::of_types::<usize, FileError>(layer, error),
+        Graph(error) => bounds::of_type::<GraphError>(error),
+    }
+}
