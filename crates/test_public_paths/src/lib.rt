@@ -1,6 +1,6 @@
-//! Names the public paths of `gix_commitgraph`, each law among them, from a crate that uses that
-//! crate alone, and cites definitions of its contracts: this compiles only where all of them are
-//! there.
+//! Names the laws of `gix_commitgraph`, from a crate that uses that crate alone, cites definitions
+//! of its contracts, and calls it: this compiles only where all of them are there, and where its
+//! caller has to list no other crate.
 #![tactic(auto)]
 
 ghost use Rattle.std.specs.Prelude.{IfOk, MatchResult};
@@ -11,8 +11,7 @@ ghost use Rattle.gix_commitgraph.specs.OpenAlways.{IsFromPath, IsPathError};
 ghost use Rattle.gix_commitgraph.specs.Sound.{Sound};
 
 pub mod definitions;
-mod errors;
-mod items;
+mod laws;
 
 use gix_commitgraph::file::Commit;
 use gix_commitgraph::opening::OpenError;
