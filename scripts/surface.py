@@ -31,17 +31,19 @@ SOURCES = {
         "graph_layer/src/opening/error.rt": None,
     },
     "vectors": {
+        "graph_vectors/src/lib.rt": {"LayerPlan", "PlanCommit", "build", "reseal"},
         "graph_vectors/src/plan.rt": None,
         "graph_vectors/src/trailer.rt": None,
         "graph_encoder/src/plan.rt": {"PlanCommit"},
     },
     "history": {
+        "graph_history/src/lib.rt": {"Checked", "NoFault", "Reached"},
         "graph_history/src/checked.rt": None,
         "graph_ancestors/src/checking.rt": {"NoFault"},
         "commit_search/src/lib.rt": {"Reached"},
     },
     "commands": {
-        "graph_commands/src/run.rt": {"run_list", "run_verify", "run_distinct", "run_find"},
+        "graph_commands/src/run.rt": {"run_list", "run_verify", "run_distinct", "run_find", "run_ancestor", "WriteFailed"},
         "graph_commands/src/ancestor.rt": {"run_ancestor"},
         "graph_commands/src/line.rt": {"WriteFailed"},
     },
@@ -73,14 +75,15 @@ BOUND_CALL = re.compile(r"bounds::(\w+)::<(.*)>\(\);")
 def missing(texts):
     """The public items that test_surface does not use, and the sources that are not there."""
     for module, sources in SOURCES.items():
-        uses = "".join(COMMENT.sub("", text) for path, text in texts.items() if path.startswith((CRATE + module + ".", CRATE + module + "/")))
+        ours = (CRATE + module + ".rt", CRATE + module + "/")
+        uses = "".join(COMMENT.sub("", text) for path, text in texts.items() if path.startswith(ours))
         traits = used_traits(texts[BOUNDS], uses)
         for source, wanted in sources.items():
             found = [path for path in texts if path.startswith("crates/" + source) and not laws.FILE.fullmatch(path)]
             if not found:
                 yield "%s is not there" % source
             for path in found:
-                yield from ("%s has %s" % (path, name) for name in missing_in(texts[path], wanted, uses, traits))
+                yield from ("%s has %s" % (path, name) for name in missing_in(path, texts[path], wanted, uses, traits))
 
 
 def used_traits(bounds, uses):
@@ -93,9 +96,9 @@ def used_traits(bounds, uses):
     return traits
 
 
-def missing_in(text, wanted, uses, traits):
+def missing_in(path, text, wanted, uses, traits):
     """The wanted public items of a source that are not used, and the traits of its types."""
-    for owner, name, pattern in items(text):
+    for owner, name, pattern in [*items(text), *exports(path, text)]:
         if (wanted is None or owner in wanted) and owner not in PRIVATE and not re.search(pattern, uses):
             yield name
     for owner, trait in traits_in(text):
@@ -117,9 +120,15 @@ def items(text):
             kind = None
         elif kind:
             yield from parts(kind, owner, line)
-    for path, names in EXPORT.findall(text):
-        if not path.startswith("law") and "law::" not in path:
-            yield from ((name, name, r"\b%s\b" % name) for name in re.findall(r"\w+", names))
+
+
+def exports(path, text):
+    """What a source gives another path, as items are told: where it is used, the last module of that path stands before it."""
+    crate, _, file = path.split("/", 3)[1:]
+    module = crate if file == "lib.rt" else file[: -len(".rt")].split("/")[-1]
+    for source, names in EXPORT.findall(text):
+        if "law" not in source.split("::"):
+            yield from ((name, name, r"\b%s::(?:\{[^}]*)?\b%s\b" % (module, name)) for name in re.findall(r"\w+", names))
 
 
 def parts(kind, owner, line):

@@ -1,5 +1,11 @@
 //! The commands of `graphtool`.
 
+ghost use Rattle.std.specs.Prelude.{◌≡◌, IfOk};
+ghost use Rattle.graph_commands.specs.Ancestor.{MayRelate, ancestor_status, ancestor_text};
+ghost use Rattle.graph_commands.specs.Find.{MayFind, find_status, find_text};
+ghost use Rattle.graph_commands.specs.OpenerAnswer.{MayOpen};
+ghost use Rattle.graph_commands.specs.WrittenAnswer.{WritesAnswer};
+
 use crate::bounds;
 use graph_commands::run;
 use graph_commands::run::WriteFailed;
@@ -40,7 +46,13 @@ fn run_find<T: Folder, W: Write>(
     path: &str,
     hex: &str,
     writer: &mut W,
-) -> Result<u8, WriteFailed> {
+) -> Result<u8, WriteFailed>
+    ensures { IfOk result (WritesAnswer find_text find_status
+        (MayFind hex.now (folder.new ≡ folder.old)
+        (MayOpen (T.tree folder.old) path.now (T.failure_count folder.old)
+        (T.failure_count folder.new)))
+        (W.contents writer.old) (W.contents writer.new)) }
+{
     run::run_find(alloc, folder, path, hex, writer)
 }
 
@@ -51,7 +63,13 @@ fn run_ancestor<T: Folder, W: Write>(
     first: &str,
     second: &str,
     writer: &mut W,
-) -> Result<u8, WriteFailed> {
+) -> Result<u8, WriteFailed>
+    ensures { IfOk result (WritesAnswer ancestor_text ancestor_status
+        (MayRelate first.now second.now (folder.new ≡ folder.old)
+        (MayOpen (T.tree folder.old) path.now (T.failure_count folder.old)
+        (T.failure_count folder.new)))
+        (W.contents writer.old) (W.contents writer.new)) }
+{
     run::run_ancestor(alloc, folder, path, first, second, writer)
 }
 

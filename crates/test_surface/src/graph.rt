@@ -8,11 +8,11 @@ mod checks;
 mod opening;
 
 use crate::bounds;
-use gix_commitgraph::file::{Commit, File};
+use gix_commitgraph::file::Commit;
 use gix_commitgraph::init::GraphError;
 use gix_commitgraph::{
-    GENERATION_NUMBER_INFINITY, GENERATION_NUMBER_MAX, Graph, GraphCommits, GraphIds, MAX_COMMITS,
-    Position,
+    File, GENERATION_NUMBER_INFINITY, GENERATION_NUMBER_MAX, Graph, GraphCommits, GraphIds,
+    MAX_COMMITS, Position,
 };
 use gix_hash_core::{Kind, oid};
 use std::alloc::Global;

@@ -1,7 +1,10 @@
 //! Graphs that were checked, and the query for an ancestor.
 
-ghost use Rattle.std.specs.Prelude.{◌<◌};
+ghost use Rattle.std.specs.Prelude.{◌↔◌, ◌<◌, IfOk, IsTrue};
+ghost use Rattle.commit_search.specs.WalkAnswer.{IsAnswer};
 ghost use Rattle.gix_commitgraph.specs.Graph.{total};
+ghost use Rattle.gix_commitgraph.specs.StoredHistory.{history_of};
+ghost use Rattle.gix_commitgraph.specs.Walks.{Reaches};
 
 use crate::bounds;
 use gix_commitgraph::verify::{Outcome, VerifyError, VerifyOptions};
@@ -47,6 +50,8 @@ fn is_ancestor(
 ) -> Result<bool, AllocError>
     requires ancestor { ancestor.0 < total checked.now.layers }
     requires descendant { descendant.0 < total checked.now.layers }
+    ensures { IfOk result (λ found.
+        IsTrue found ↔ Reaches (history_of checked.now.layers) descendant.0 ancestor.0) }
 {
     Checked::is_ancestor(checked, alloc, ancestor, descendant)
 }
@@ -59,6 +64,7 @@ fn ancestor_walk(
 ) -> Result<Reached, AllocError>
     requires from { from.0 < total checked.now.layers }
     requires to { to.0 < total checked.now.layers }
+    ensures { IfOk result (IsAnswer (history_of checked.now.layers) from.0 to.0) }
 {
     Checked::ancestor_walk(checked, alloc, from, to)
 }

@@ -1,5 +1,8 @@
 //! Opening a graph by a path, over the file system and over any folder.
 
+ghost use Rattle.std.specs.Prelude.{◌≡◌, IfOk, string_bytes};
+ghost use Rattle.gix_commitgraph.specs.Paths.{join_path, layer_path};
+
 use crate::bounds;
 use gix_commitgraph::opening::{self, OpenError, Standing, path};
 use gix_commitgraph::{FileError, Graph, GraphError};
@@ -58,7 +61,9 @@ fn is_settled<A>(answer: &Result<A, OpenError>) -> bool {
     opening::is_settled(answer)
 }
 
-fn join(alloc: Global, folder: &str, name: &str) -> Result<String, AllocError> {
+fn join(alloc: Global, folder: &str, name: &str) -> Result<String, AllocError>
+    ensures { IfOk result (λ path. string_bytes path ≡ join_path folder.now name.now) }
+{
     path::join(alloc, folder, name)
 }
 
@@ -74,7 +79,9 @@ fn chain_path(alloc: Global, folder: &str) -> Result<String, AllocError> {
     path::chain_path(alloc, folder)
 }
 
-fn layer_path(alloc: Global, folder: &str, line: &str) -> Result<String, AllocError> {
+fn layer_path(alloc: Global, folder: &str, line: &str) -> Result<String, AllocError>
+    ensures { IfOk result (λ path. string_bytes path ≡ layer_path folder.now line.now) }
+{
     path::layer_path(alloc, folder, line)
 }
 
