@@ -8,7 +8,7 @@ use gix_commitgraph::file::commit::{Commit, ExtraEdge, ParentEdge, ParentError, 
 use gix_commitgraph::{Position, file};
 use gix_hash_core::oid;
 
-/// What a commit answers is lent from the file, and outlives the `Commit`.
+/// The id is lent from the file, and outlives the `Commit`.
 fn id<'f>(commit: &Commit<'f>) -> oid<'f> {
     Commit::id(commit)
 }
@@ -39,12 +39,12 @@ fn iter_parents<'f>(commit: Commit<'f>) -> Parents<'f> {
     Commit::iter_parents(commit)
 }
 
-/// The type has a `next` besides the trait's.
+/// The type has a `next` of its own, besides that of `Iterator`.
 fn next(parents: &mut Parents<'_>) -> Option<Result<Position, ParentError>> {
     Parents::next(parents)
 }
 
-fn parents_hint_of(parents: &Parents<'_>) -> (usize, Option<usize>)
+fn size_hint(parents: &Parents<'_>) -> (usize, Option<usize>)
     ensures { result ≡ parents_hint parents.now }
 {
     parents.size_hint()
@@ -58,12 +58,12 @@ fn parent_errors(error: &ParentError) {
     }
 }
 
-fn parent_edges(raw: u32) {
+fn parent_edges(edge: &ParentEdge) {
     bounds::plain::<ParentEdge>();
-    match ParentEdge::from_raw(raw) {
+    match edge {
         ParentEdge::None => {}
-        ParentEdge::GraphPosition(pos) => bounds::of_type::<Position>(&pos),
-        ParentEdge::ExtraEdgeIndex(index) => bounds::of_type::<u32>(&index),
+        ParentEdge::GraphPosition(pos) => bounds::of_type::<Position>(pos),
+        ParentEdge::ExtraEdgeIndex(index) => bounds::of_type::<u32>(index),
     }
 }
 
@@ -71,10 +71,10 @@ fn parent_edge(raw: u32) -> ParentEdge {
     ParentEdge::from_raw(raw)
 }
 
-fn extra_edges(raw: u32) {
+fn extra_edges(edge: &ExtraEdge) {
     bounds::plain::<ExtraEdge>();
-    match ExtraEdge::from_raw(raw) {
-        ExtraEdge::Internal(pos) | ExtraEdge::Last(pos) => bounds::of_type::<Position>(&pos),
+    match edge {
+        ExtraEdge::Internal(pos) | ExtraEdge::Last(pos) => bounds::of_type::<Position>(pos),
     }
 }
 
