@@ -290,9 +290,10 @@ def in_the_way(way):
 
 
 def closed(name, rights):
-    """A file or a folder that nobody else may use."""
+    """A file or a folder that nobody else may use. The program is a shell script, which anybody may run."""
     def make(spot):
         spot.write()
+        spot.clone.put_program("graphtool", "echo 'refused open 2'\nexit 1\n")
         os.chmod(os.path.join(spot.info, name), rights)
         spot.streams = {"preexec_fn": partial(os.setuid, NOBODY)} if os.geteuid() == 0 else {}
     return make
@@ -301,7 +302,11 @@ def closed(name, rights):
 def closed_object(spot):
     """An object that may not be read."""
     spot.write()
-    path = spot.loose(spot.git("rev-parse", "main~2"))
+    commit = spot.git("rev-parse", "main~2")
+    spot.clone.put_program("graphtool", "echo 'ok commits 1 longest 1'\n")
+    answers = "case $1 in\nids) echo %s ;;\n*) cat >/dev/null; echo 'refused objects 4 position 0'; exit 1 ;;\nesac\n"
+    spot.clone.put_program("historytool", answers % commit)
+    path = spot.loose(commit)
     os.chmod(path, 0)
     spot.more["object"] = quoted(path)
     spot.streams = {"preexec_fn": partial(os.setuid, NOBODY)} if os.geteuid() == 0 else {}
