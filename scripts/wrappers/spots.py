@@ -13,9 +13,6 @@ ODD = "-a 'b\" $(id)\n\\*;"
 
 SPOTS = ("plain", "odd", "worktree", "bare", "fork")
 PROGRAMS = os.path.join(os.path.dirname(os.path.abspath(__file__)), "programs.py")
-PYTHON = shutil.which("python3", path=os.defpath) or sys.executable
-"""A Python that another user may run too, where the system has one."""
-
 COMMITS = 6
 GRAPH, CHAINS = "commit-graph", "commit-graphs"
 CHAIN = CHAINS + "/commit-graph-chain"
@@ -54,11 +51,8 @@ class Spot:
         if not os.path.islink(link):
             os.remove(link)
             os.symlink(shutil.which("mv"), link)
-        with open(PROGRAMS, encoding="utf-8") as file:
-            self.clone.put("programs.py", file.read())
         for name in ("graphtool", "historytool"):
-            program = os.path.join(self.clone.folder, "programs.py")
-            self.clone.put_program(name, "exec '%s' '%s' %s \"$@\"\n" % (PYTHON, program, name))
+            self.clone.put_program(name, "exec '%s' '%s' %s \"$@\"\n" % (sys.executable, PROGRAMS, name))
 
     def make(self, name, *words):
         """Makes a repository, and gives its folder."""
