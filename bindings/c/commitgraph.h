@@ -782,16 +782,16 @@ static inline const char *cg_advice(uint32_t code) {
     case CG_CHECK_CHECKSUM: return "check the disk, and write it anew: " CG_ANEW;
     case CG_CHECK_FILE_NAME: return "give it its name back, or write it anew: " CG_ANEW;
     case CG_DATES_WRONG:
-        return "write it anew; where a time is past the year 2514, Git writes dates that are refused again, and "
-               "`git -c commitGraph.generationVersion=1 commit-graph write --reachable` writes none; to write it anew, " CG_ANEW;
+        return "write it anew; where a time is past the year 2514, or a date has a minus sign, Git writes dates that are refused "
+               "again, and `git -c commitGraph.generationVersion=1 commit-graph write --reachable` writes none; to write it anew, " CG_ANEW;
     case CG_FILTERS_INDEX_SIZE: case CG_FILTERS_DATA_SIZE: case CG_FILTERS_VERSION: case CG_FILTERS_HASHES:
     case CG_FILTERS_NO_BITS: case CG_FILTERS_FALLS: case CG_FILTERS_PAST_END: case CG_FILTERS_LEFT_OVER: case CG_FILTERS_SETTINGS:
         return "write it anew, with `--changed-paths` after the last command; to write it anew, " CG_ANEW;
     case CG_OBJECT_OTHER_CONTENTS: return "take the object from another copy of the repository";
     case CG_OBJECT_UNREADABLE: return "see what `git fsck` says of it";
     case CG_OBJECT_TIME:
-        return "write it anew; where its time is past the year 2514, Git stores the low bits again, and the commit has to be "
-               "made anew, with another time; to write it anew, " CG_ANEW;
+        return "write it anew; where its time is past the year 2514, or its date has a minus sign, Git stores the low bits "
+               "again, and the commit has to be made anew, with another time; to write it anew, " CG_ANEW;
     case CG_WRITE_KIND: return "hand in ids of one kind";
     case CG_WRITE_NULL_ID: return "hand in its id";
     case CG_WRITE_NULL_TREE: return "see what `git fsck` says of it";

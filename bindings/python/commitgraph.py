@@ -243,8 +243,8 @@ ADVICE = {
     Code.CHECK_BASE_COUNT: "open the whole chain, by its folder; else write it anew: " + ANEW,
     Code.CHECK_CHECKSUM: "check the disk, and write it anew: " + ANEW,
     Code.CHECK_FILE_NAME: "give it its name back, or write it anew: " + ANEW,
-    Code.DATES_WRONG: "write it anew; where a time is past the year 2514, Git writes dates that are refused again, and "
-    "`git -c commitGraph.generationVersion=1 commit-graph write --reachable` writes none; to write it anew, " + ANEW,
+    Code.DATES_WRONG: "write it anew; where a time is past the year 2514, or a date has a minus sign, Git writes dates that are "
+    "refused again, and `git -c commitGraph.generationVersion=1 commit-graph write --reachable` writes none; to write it anew, " + ANEW,
     Code.FILTERS_INDEX_SIZE: FILTERS,
     Code.FILTERS_DATA_SIZE: FILTERS,
     Code.FILTERS_VERSION: FILTERS,
@@ -256,8 +256,8 @@ ADVICE = {
     Code.FILTERS_SETTINGS: FILTERS,
     Code.OBJECT_OTHER_CONTENTS: "take the object from another copy of the repository",
     Code.OBJECT_UNREADABLE: "see what `git fsck` says of it",
-    Code.OBJECT_TIME: "write it anew; where its time is past the year 2514, Git stores the low bits again, and the commit has to be "
-    "made anew, with another time; to write it anew, " + ANEW,
+    Code.OBJECT_TIME: "write it anew; where its time is past the year 2514, or its date has a minus sign, Git stores the low bits "
+    "again, and the commit has to be made anew, with another time; to write it anew, " + ANEW,
     Code.WRITE_KIND: "hand in ids of one kind",
     Code.WRITE_NULL_ID: "hand in its id",
     Code.WRITE_NULL_TREE: "see what `git fsck` says of it",

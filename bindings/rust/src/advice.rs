@@ -21,7 +21,7 @@ pub(crate) const BASE_COUNT: &str = concat!("open the whole chain, by its folder
 pub(crate) const CHECKSUM: &str = concat!("check the disk, and write it anew: ", anew!());
 pub(crate) const FILE_NAME: &str = concat!("give it its name back, or write it anew: ", anew!());
 pub(crate) const DATES: &str = concat!(
-    "write it anew; where a time is past the year 2514, Git writes dates that are refused again, and \
+    "write it anew; where a time is past the year 2514, or a date has a minus sign, Git writes dates that are refused again, and \
      `git -c commitGraph.generationVersion=1 commit-graph write --reachable` writes none; to write it anew, ",
     anew!()
 );
@@ -30,8 +30,8 @@ pub(crate) const FILTERS: &str =
 pub(crate) const OTHER_CONTENTS: &str = "take the object from another copy of the repository";
 pub(crate) const FSCK: &str = "see what `git fsck` says of it";
 pub(crate) const OTHER_TIME: &str = concat!(
-    "write it anew; where its time is past the year 2514, Git stores the low bits again, and the commit has to be made anew, \
-     with another time; to write it anew, ",
+    "write it anew; where its time is past the year 2514, or its date has a minus sign, Git stores the low bits again, and the \
+     commit has to be made anew, with another time; to write it anew, ",
     anew!()
 );
 pub(crate) const KIND: &str = "hand in ids of one kind";
