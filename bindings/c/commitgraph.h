@@ -768,7 +768,7 @@ static inline const char *cg_strerror(uint32_t code) {
  * not known. A commit-graph is written anew by commands that are typed at the top of its repository. */
 static inline const char *cg_advice(uint32_t code) {
 #define CG_ANEW "remove `.git/objects/info/commit-graph` and the folder `.git/objects/info/commit-graphs`, " \
-                "and then run `git commit-graph write --reachable`"
+                "and then run `git commit-graph write --reachable`, with `--changed-paths` if it had filters"
     switch (code) {
     case CG_OUT_OF_MEMORY: return "give the program more memory";
     case CG_OPEN_NOTHING_FOUND: return "check the path";

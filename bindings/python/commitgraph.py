@@ -229,7 +229,7 @@ SENTENCES = {
 
 ANEW = (
     "remove `.git/objects/info/commit-graph` and the folder `.git/objects/info/commit-graphs`, "
-    "and then run `git commit-graph write --reachable`"
+    "and then run `git commit-graph write --reachable`, with `--changed-paths` if it had filters"
 )
 FILTERS = "write it anew, with `--changed-paths` after the last command; to write it anew, " + ANEW
 ADVICE = {

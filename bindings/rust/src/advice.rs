@@ -6,7 +6,7 @@ use std::fmt;
 macro_rules! anew {
     () => {
         "remove `.git/objects/info/commit-graph` and the folder `.git/objects/info/commit-graphs`, \
-         and then run `git commit-graph write --reachable`"
+         and then run `git commit-graph write --reachable`, with `--changed-paths` if it had filters"
     };
 }
 
