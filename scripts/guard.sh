@@ -35,7 +35,8 @@ end_question() {
     kill -"$came" $$
 }
 
-# The processes that run of those which a process has started, itself first.
+# The processes that run of those which a process has started, itself first, and each before those that it has started: whoever is
+# ended does nothing more when these end.
 started_by() {
     cat /proc/[0-9]*/stat 2>/dev/null | LC_ALL=C awk -v root="$1" '
         {
@@ -45,9 +46,12 @@ started_by() {
         }
         END {
             for (process in parent) {
-                for (above = process; above in parent && above != root; above = parent[above]);
-                if (above == root) print process
+                depth = 0
+                for (above = process; above in parent && above != root; above = parent[above]) depth++
+                if (above == root) started[depth] = started[depth] " " process
+                if (depth > deepest) deepest = depth
             }
+            for (depth = 0; depth <= deepest; depth++) print started[depth]
         }
     '
 }
