@@ -183,7 +183,7 @@ fn what_is_refused_is_told() {
     assert!(matches!(short, OpenError::Layer { layer: 1, error: FileError::TooShort, .. }));
     let says = |error: &OpenError, happened: &str| {
         assert_eq!(error.to_string(), format!("{happened}; what to do: {}", error.advice()));
-        assert!(error.advice().ends_with("`git commit-graph write --reachable`"));
+        assert!(error.advice().ends_with("`git commit-graph write --reachable`, with `--changed-paths` if it had filters"));
     };
     says(&short, "layer 1: the file has fewer than 1100 bytes: often it is truncated");
     let named = refused(&[(b"CGPH", "a/graph-b.graph")]);
