@@ -1,7 +1,9 @@
 //! Graphs of up to 256 layers of one commit each: how many comparisons find a layer, and their
 //! check.
 
-use crate::fixtures::{Call, Chain, Processor, Summary, checked, compare_outcome, graph_of};
+use crate::fixtures::{
+    Call, Chain, EACH, Processor, Summary, checked, compare_outcome, graph_of, right,
+};
 use gix_commitgraph::{Graph, Position, file};
 use gix_hash_core::ObjectId;
 use graph_vectors::planned_commit;
@@ -81,12 +83,15 @@ fn compare_calls(rt: &impl Abort, calls: &[Call], layers: usize) {
 /// What the check says of 256 layers.
 const SUMMARY: Summary = (Some(255), &[(0, 1), (1, 255)]);
 
-/// Compares the outcome of the graph of 256 layers.
+/// Compares the outcome of the graph of 256 layers, checked each way.
 fn compare_check(rt: &impl Abort, alloc: Global, graph: &Graph) {
-    let (answer, calls) = checked(alloc, graph, None, Processor::Accepts);
-    compare_calls(rt, &calls, 256);
-    let outcome = answer.ok().expect(rt, "a right graph");
-    compare_outcome(rt, &outcome, 256, SUMMARY);
+    for options in EACH {
+        let (answer, calls) = checked(alloc, graph, *options, Processor::Accepts);
+        compare_calls(rt, &calls, 256);
+        let outcome = answer.ok().expect(rt, "a right graph");
+        compare_outcome(rt, &outcome, 256, SUMMARY);
+    }
+    assert!(rt; right(rt, alloc, graph).num_commits() == 256);
 }
 
 /// Compares how many comparisons find the layers of the graph of 256: at most nine, and for some
