@@ -137,6 +137,13 @@ def lower_crates(listing):
     return {crate: below(crate) for crate in uses}
 
 
+def highest_crates(listing):
+    """For each crate that crates.txt lists, those of its own that it stands on, without the ones that another of these stands on."""
+    uses, lower = used_crates(listing), lower_crates(listing)
+    ours = {crate: uses.keys() & set(uses[crate]) for crate in uses}
+    return {crate: {name for name in found if not any(name in lower[other] for other in found - {name})} for crate, found in ours.items()}
+
+
 def used_crates(listing):
     """For each crate that crates.txt lists, the crates that it uses."""
     lines = re.findall(r"^(\w+)(?: staticlib)?:(.*)$", listing, re.MULTILINE)
