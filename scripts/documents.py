@@ -24,7 +24,7 @@ LINK = re.compile(r"\]\(([^)#:]+)\)")
 README = re.compile(r"crates/(\w+)/README\.md")
 """The document of a crate, which has its promises."""
 
-CODE_DOCUMENTS = re.compile(README.pattern + r"|docs/(DEFINITIONS|FORMAT|ARCHITECTURE)\.md")
+CODE_DOCUMENTS = re.compile(README.pattern + r"|docs/(ARCHITECTURE|FORMAT|PROMISES)\.md")
 """The documents that may name no code that is not there."""
 
 LISTED = r"((?:(?:,| and|, and) `\w+`)*)"

@@ -1,22 +1,21 @@
-"""The README of each crate, which has its promises, docs/DEFINITIONS.md, which leads to them, and the plan of the crates."""
+"""The README of each crate, which has its promises, and docs/ARCHITECTURE.md, which leads to them and has the plan of the crates."""
 
 import fnmatch
 import re
 
-from documents import LINK, QUOTED, README, lower_crates, used_crates
+from documents import LINK, QUOTED, README, highest_crates, used_crates
 
-MAP = "docs/DEFINITIONS.md"
 PLAN = "docs/ARCHITECTURE.md"
 
-ROW = re.compile(r"^.* (\w+) +over ([\w, ]+)$", re.MULTILINE)
-"""A row of the plan: a crate, and the highest crates that it stands on."""
+ROW = re.compile(r"^\| \[`(\w+)`\]\(\S*\) \| [^|]+ \| ([^|]+) \|$", re.MULTILINE)
+"""A row of the plan: a crate, what it is about, and the highest crates that it stands on."""
 
 STANDS_ON = re.compile(r"^Stands on:? (.*?)\.(?: |$)", re.MULTILINE | re.DOTALL)
 
 
 def missing(texts):
-    """The crates that have no README under their name, or one to which the map of the promises does not link."""
-    linked = LINK.findall(texts[MAP])
+    """The crates that have no README under their name, or one to which the plan does not link."""
+    linked = LINK.findall(texts[PLAN])
     for crate in used_crates(texts["crates.txt"]):
         path = "crates/%s/README.md" % crate
         if not texts.get(path, "").startswith("# `%s`\n" % crate) or "../" + path not in linked:
@@ -36,11 +35,9 @@ def wrong_grounds(texts):
 
 
 def wrong_rows(texts):
-    """The crates, those of tests aside, of which the plan does not name exactly the highest crates that they stand on."""
-    uses, lower = used_crates(texts["crates.txt"]), lower_crates(texts["crates.txt"])
-    said = {crate: set(highest.split(", ")) for crate, highest in ROW.findall(texts[PLAN])}
-    for crate in uses:
-        ours = uses.keys() & uses[crate]
-        highest = {name for name in ours if not any(name in lower[other] for other in ours - {name})}
-        if not crate.startswith("test_") and said.get(crate, set()) != highest:
+    """The crates, those of tests aside, of which the plan does not name exactly the highest crates that they stand on, in one row."""
+    rows = ROW.findall(texts[PLAN])
+    said = {crate: set(QUOTED.findall(highest)) for crate, highest in rows}
+    for crate, highest in highest_crates(texts["crates.txt"]).items():
+        if not crate.startswith("test_") and (said.get(crate) != highest or [name for name, _ in rows].count(crate) != 1):
             yield "%s stands on %s" % (crate, ", ".join(sorted(highest)))
