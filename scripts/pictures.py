@@ -326,14 +326,14 @@ def bars(measured):
 
 
 def figures_of(measured):
-    """The figures of the tables, by section, row and column."""
+    """The figures of the tables, by section, row and column, be they bold or not."""
     figures = {}
     for section in measured.split("\n## ")[1:]:
         title, columns = section.partition("\n")[0], []
         for line in section.split("\n"):
             cells = [cell.strip() for cell in line.strip().strip("|").split("|")] if line.startswith("|") else []
             columns = (columns or cells) if cells else []
-            figures.update(((title, cells[0], column), cell) for column, cell in zip(columns[1:], cells[1:]))
+            figures.update(((title, cells[0], column), cell.strip("*")) for column, cell in zip(columns[1:], cells[1:]))
     return figures
 
 
