@@ -9,6 +9,7 @@ import os
 import re
 import sys
 from collections import defaultdict
+from math import fsum
 from typing import Dict, List, NamedTuple, Tuple
 
 import documents
@@ -233,8 +234,8 @@ def swept(rows, neighbours, upwards):
 
 
 def mean(numbers, otherwise):
-    """The mean of some numbers, or another one where there are none."""
-    return sum(numbers) / len(numbers) if numbers else otherwise
+    """The mean of some numbers, or another one where there are none: the same for each version of Python."""
+    return fsum(numbers) / len(numbers) if numbers else otherwise
 
 
 def crossings(rows, segments):
@@ -270,14 +271,14 @@ def box_width(crate):
 
 def apart(wanted, widths):
     """Middles in the order of those wanted and as near to them as possible, so that the widths do not overlap."""
-    starts = [sum(widths[:at]) + widths[at] / 2 for at in range(len(widths))]
+    starts = [fsum(widths[:at]) + widths[at] / 2 for at in range(len(widths))]
     blocks = []
     for place, start in zip(wanted, starts):
         blocks.append([place - start])
         while len(blocks) > 1 and mean(blocks[-2], 0) > mean(blocks[-1], 0):
             last = blocks.pop()
             blocks[-1] += last
-    first, last = MARGIN + FLOOR_NUMBER, PLAN_WIDTH - MARGIN - sum(widths)
+    first, last = MARGIN + FLOOR_NUMBER, PLAN_WIDTH - MARGIN - fsum(widths)
     shifts = [min(max(mean(block, 0), first), last) for block in blocks for _ in block]
     return [start + shift for start, shift in zip(starts, shifts)]
 
