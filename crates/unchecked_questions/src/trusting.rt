@@ -1,7 +1,7 @@
 //! The command `ask --unchecked`: many questions about the graph at a path, which is trusted.
 
 ghost use Rattle.std.specs.Prelude.{◌≡◌, ◌≢◌, [], List, ℕ, Option, IfErr, IfOk, Ok, OnOk, map};
-ghost use Rattle.std.specs.Prelude.{true, false};
+ghost use Rattle.std.specs.Prelude.{OnErr, true, false};
 ghost use Rattle.std.specs.Io.KnownBytes.{Appends, prepend_known};
 ghost use Rattle.std.specs.List.{flat_map};
 ghost use Rattle.gix_commitgraph.specs.Opening.{MetNoFailure};
