@@ -13,6 +13,8 @@ use Rattle.graph_ancestors.specs.RefusedGraph.{MayRefuseGraph}
 use Rattle.graph_commands.specs.OpenerAnswer.{OpensAs}
 use Rattle.graph_commands.specs.declared.refusal.Refusal.{Refusal}
 use Rattle.graph_commands.specs.declared.refusal.Refusal.TheVariants.{Open, Verify}
+use Rattle.graph_format.specs.declared.error.GraphError.TheVariants as GraphError
+use Rattle.graph_history.specs.Checked.{MayRefuseSome}
 use Rattle.graph_history.specs.Reload.{StandAboveShared}
 use Rattle.question_answers.specs.Taken.{MayTake}
 
@@ -34,13 +36,14 @@ OpensChain known path old new answer =
     OpensAs known (λ tree. chain_opened tree path) answer × (new ≡ failures_after_opening answer old)
 
 -- what came of layers that are put on top of those of before: they stand there, in a right graph, and their commits were checked;
--- or those of before stand, since all make a graph that is not right, or an allocation failed
+-- or those of before stand, since all make a graph that is not right, or an allocation failed before a layer that makes none
 abbrev pub PutsAbove : List Layer → List Layer → List Layer → Result ℕ Refusal → Type 0
 PutsAbove before above after (Ok checked) =
     (after ≡ before ++ above) × (checked ≡ total above) × IsGraph after × Sound after
 PutsAbove before above after (Err (Verify error)) =
     (after ≡ before) × IsGraph (before ++ above) × MayRefuseGraph (before ++ above) error
-PutsAbove before above after (Err (Open error)) = (after ≡ before) × (error ≡ OutOfMemory)
+PutsAbove before above after (Err (Open error)) =
+    (after ≡ before) × (error ≡ OutOfMemory) × MayRefuseSome before above GraphError.OutOfMemory
 PutsAbove before above after (Err _) = ⊥
 
 -- a device failed, or memory ran out

@@ -83,6 +83,17 @@ const REFUSED: &[Row] = &[
     (ByPath::Chain, INFO, Err(OpenError::NotOpened)),
 ];
 
+/// A file of Linux. A read at its start fails, since no process has memory at the address 0.
+const FAILING: &str = "/proc/self/mem";
+
+/// A file of which each read fails.
+const FAILED: &[Row] = &[
+    (ByPath::Root, FAILING, Err(OpenError::Device)),
+    (ByPath::Graph, FAILING, Err(OpenError::Device)),
+    (ByPath::File, FAILING, Err(OpenError::Device)),
+    (ByPath::Layer, FAILING, Err(OpenError::Device)),
+];
+
 /// Compares what is answered by each of some paths.
 fn compare_answers<R: Files + Abort>(rt: &R, alloc: Global, rows: &[Row]) {
     for (opener, path, want) in rows {
@@ -113,6 +124,7 @@ fn graphs_on_disk_are_opened_by_their_paths(rt: HostRuntime) {
     write_graphs(&rt, rt.alloc());
     compare_answers(&rt, rt.alloc(), OPENED);
     compare_answers(&rt, rt.alloc(), REFUSED);
+    compare_answers(&rt, rt.alloc(), FAILED);
     fs::remove_dir_all(&rt, INFO).expect(&rt, "no folder");
     fs::remove_file(&rt, FILE).expect(&rt, "no file");
 }

@@ -1,7 +1,7 @@
 //! The command `ask --unchecked`: many questions about the graph at a path, which is trusted.
 
 ghost use Rattle.std.specs.Prelude.{◌≡◌, ◌≢◌, [], List, ℕ, Option, IfErr, IfOk, Ok, OnOk, map};
-ghost use Rattle.std.specs.Prelude.{true, false};
+ghost use Rattle.std.specs.Prelude.{OnErr, true, false};
 ghost use Rattle.std.specs.Io.KnownBytes.{Appends, prepend_known};
 ghost use Rattle.std.specs.List.{flat_map};
 ghost use Rattle.gix_commitgraph.specs.Opening.{MetNoFailure};
@@ -351,13 +351,30 @@ fn reload<T: Folder, W: Write>(
     ensures kept { IsKeptAt (T.tree folder.old) path.now kept.new }
     ensures tree { T.tree folder.new ≡ T.tree folder.old }
 {
-    match open_trusted(alloc, folder, path) {
-        Ok(opened) => {
-            *kept = opened.kept;
-            write_count(writer, opened.commits)
-        }
+    match keep_anew(alloc, folder, path, kept) {
+        Ok(commits) => write_count(writer, commits),
         Err(refusal) => write_refused(writer, &refusal),
     }
+}
+
+/// Opens the graph at the path anew, keeps it in the place of what was kept, and answers how many
+/// commits it has. Where it is refused, what was kept stays.
+fn keep_anew<T: Folder>(
+    alloc: Global,
+    folder: &mut T,
+    path: &str,
+    kept: &mut Kept,
+) -> Result<u32, Refusal>
+    requires { IsKeptAt (T.tree folder.old) path.now kept.old }
+    ensures count { MayCount (MayOpen (T.tree folder.old) path.now)
+        (T.failure_count folder.old) (T.failure_count folder.new) result }
+    ensures kept { IsKeptAt (T.tree folder.old) path.now kept.new }
+    ensures stays { OnErr result (kept.new ≡ kept.old) }
+    ensures tree { T.tree folder.new ≡ T.tree folder.old }
+{
+    let opened = open_trusted(alloc, folder, path)?;
+    *kept = opened.kept;
+    Ok(opened.commits)
 }
 
 /// Answers a question, which does not ask for the graph to be opened anew: by parts, where they

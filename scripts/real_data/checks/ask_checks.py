@@ -429,8 +429,8 @@ class LayerWriter(threading.Thread):
 
 
 def check_reload(programs, results, repository, history, way):
-    """The graph gets a layer, which is then damaged, where nobody sees it who trusts it, and mended; after each, the path is opened
-    anew. At the end the graph is the one of before.
+    """The graph gets a layer, which is then damaged, where nobody sees it who trusts it, mended, and taken away; after each, the path
+    is opened anew. At the end the graph is the one of before.
     """
     path, title = repository.info_path(), "%s, %s" % (repository.object_format, " ".join(way))
     files = files_of(path)
@@ -454,6 +454,10 @@ def check_reload(programs, results, repository, history, way):
         write_bytes(top, layer)
         told = ask("reload")
         results.check("%s, it is mended" % title, None if told == "ok commits 30\n\n" else "it tells %r" % told)
+        before = ask("find " + tip)
+        os.remove(top)
+        told = [ask("reload"), ask("find " + tip)]
+        results.check("%s, a layer that is gone" % title, None if told == ["refused open 2\n\n", before] else "it tells %r" % told)
     put_files(path, files)
 
 

@@ -7,12 +7,12 @@ use Rattle.unchecked_questions.proofs.trusting.reload.Goals as goal
 
 pub returns-in-Ok-clause-told : goal.returns-in-Ok-clause-told
 returns-in-Ok-clause-told g c =
-    let count = Ok c.in-Ok.opened.commits in
-    adds_line c.write_count.result _ (opened_line count) _ _ (count, rw c.in-Ok.is at c.open_trusted.ensures.count, refl)
+    let count = Ok c.in-Ok.commits in
+    adds_line c.write_count.result _ (opened_line count) _ _ (count, rw c.in-Ok.is at c.keep_anew.ensures.count, refl)
     c.write_count.ensures
 
 pub returns-in-Err-clause-told : goal.returns-in-Err-clause-told
 returns-in-Err-clause-told g c =
     let count = Err c.in-Err.refusal in
-    adds_line c.write_refused.result _ (opened_line count) _ _ (count, rw c.in-Err.is at c.open_trusted.ensures.count, refl)
+    adds_line c.write_refused.result _ (opened_line count) _ _ (count, rw c.in-Err.is at c.keep_anew.ensures.count, refl)
     c.write_refused.ensures
