@@ -1,6 +1,6 @@
-"""Proves crates, and builds a program or a library from them: `python3 scripts/proving.py NAME`.
+"""Proves crates, and builds programs and a library from them, all in one run: `python3 scripts/proving.py NAME..`.
 
-The crates that NAME uses are proved first, those side by side that do not use one another. Of a library it keeps
+The crates that a NAME uses are proved first, those side by side that do not use one another. Of a library it keeps
 what its contracts say, and not their proofs, since the crates above read no more than that. So it takes less time than
 `rt run` and `rt lib`, which keep the proofs too: those are for whoever changes a crate and checks it again. A library that
 is newer than its sources and than what it uses stays as it is.
@@ -29,6 +29,9 @@ STATIC = "commitgraph_c"
 """The library beside which the static library stands."""
 FOR_C = ("c_opening", "c_writing", STATIC)
 """The libraries of whose functions it is made."""
+EXPORTS = "exports"
+"""The crate that is written here, of which the static library is built."""
+USES[EXPORTS] = list(dict.fromkeys(name for crate in FOR_C for name in (*USES[crate], crate)))
 EXPORTED = re.compile(r"^pub fn (cg_\w+)\((.*?)\)( -> \w+)?(\n.*?)\n\{\n", re.MULTILINE | re.DOTALL)
 """A function for C: its name, its parameters, its result and its contract."""
 USED = re.compile(r"^use (?!crate::)([\w:]+)::(?:\{([^}]*)\}|(\w+));", re.MULTILINE)
@@ -64,7 +67,9 @@ def is_program(crate):
 
 
 def made(crate):
-    """What is built of a crate: a program, or a library's folder."""
+    """What is built of a crate: a program, a library's folder, or the static library."""
+    if crate == EXPORTS:
+        return archive()
     out = CRATES / crate / "out"
     return out / crate if is_program(crate) else out / f"rlib/{crate}.rlib"
 
@@ -93,7 +98,7 @@ def source_files(crate):
 def is_current(crate):
     """Whether a crate is newer than its sources, and not older than what it uses, which is so too."""
     used = [name for name in USES[crate] if name in USES]
-    is_newer = made_at(crate) > max(path.stat().st_mtime for path in source_files(crate))
+    is_newer = made_at(crate) > max((path.stat().st_mtime for path in source_files(crate)), default=0)
     return is_newer and all(made_at(name) <= made_at(crate) and is_current(name) for name in used)
 
 
@@ -141,9 +146,9 @@ def prove_in(folder, words):
         raise RuntimeError(said[-4000:])
 
 
-def prove(crate, jobs, priority=(), date=None):
-    """Proves and builds one crate. It is dated to the start, so that a source that is edited meanwhile is newer than it."""
-    started, to = time.time(), made(crate)
+def build_crate(crate, jobs, priority):
+    """Proves and builds a crate of this repository."""
+    to = made(crate)
     if is_program(crate):
         root, kind = "main", [*linked(), "-o", f"{to}.o"]
     else:
@@ -153,8 +158,14 @@ def prove(crate, jobs, priority=(), date=None):
     prove_in(CRATES / crate, [*priority, *build_words(crate, USES[crate], root, kind, jobs)])
     if is_program(crate):
         run(link_words(to), CRATES / crate)
-    os.utime(dated(crate), (date or started,) * 2)
-    print(f"{crate}: proved in {time.time() - started:.0f} s", flush=True)
+
+
+def prove(crate, jobs, priority, date):
+    """Proves and builds what has this name. It is dated to the start, so that a source that is edited meanwhile is newer than it."""
+    started = time.time()
+    (build_archive if crate == EXPORTS else functools.partial(build_crate, crate))(jobs, priority)
+    os.utime(dated(crate), (date, date))
+    print(f"{dated(crate).name if crate == EXPORTS else crate}: proved in {time.time() - started:.0f} s", flush=True)
 
 
 def linked():
@@ -190,18 +201,17 @@ def write_exports(folder):
     (folder / "src/lib.rt").write_text(f"#![tactic(auto)]\n\n{lines}")
 
 
-def build_archive(jobs, date=None):
-    """Proves and builds the static library, over those for C. It is dated as a crate is. No file of its crate stays, since the
-    kit's gate takes code in the folders of crates alone."""
-    started = time.time()
-    kind = ["--crate-type", "staticlib", *linked(), "-o", archive()]
+def build_archive(jobs, priority):
+    """Proves and builds the static library. No file of its crate stays, since the kit's gate takes code in the folders of crates
+    alone; and a library that was not built to the end has another name."""
+    new = archive().with_suffix(".new")
+    new.parent.mkdir(parents=True, exist_ok=True)
     with tempfile.TemporaryDirectory() as folder:
         write_exports(pathlib.Path(folder))
-        used = list(dict.fromkeys(name for crate in FOR_C for name in (*USES[crate], crate)))
-        prove_in(folder, build_words("exports", used, "lib", kind, jobs))
-    run(["objcopy", "--set-section-alignment", f".text*={ALIGNMENT}", archive()], CRATES / STATIC)
-    os.utime(archive(), (date or started,) * 2)
-    print(f"{archive().name}: proved in {time.time() - started:.0f} s", flush=True)
+        kind = ["--crate-type", "staticlib", *linked(), "-o", new]
+        prove_in(folder, [*priority, *build_words(EXPORTS, USES[EXPORTS], "lib", kind, jobs)])
+    run(["objcopy", "--set-section-alignment", f".text*={ALIGNMENT}", new], new.parent)
+    new.replace(archive())
 
 
 @functools.lru_cache(maxsize=None)
@@ -244,18 +254,18 @@ def prove_all(crates, date):
                 done.result()
 
 
-def build(crate):
-    """Proves and builds a crate, and first what it uses, where a source is newer. No `rt` works in their folders meanwhile."""
-    crates = with_below(FOR_C if crate == STATIC else [crate])
-    locked = [os.open(CRATES / name, os.O_RDONLY) for name in sorted(crates)]
+def build(*names):
+    """Proves and builds crates, and first what they use, where a source is newer. No `rt` works in their folders meanwhile."""
+    goals = [EXPORTS if name == STATIC else name for name in names]
+    crates = with_below(goals)
+    locked = [os.open(CRATES / name, os.O_RDONLY) for name in sorted(crates) if name != EXPORTS]
     for folder in locked:
         fcntl.flock(folder, fcntl.LOCK_EX)
     date = time.time()
     prove_all([name for name in crates if not is_current(name)], date)
-    # The program may be older than a source of a crate that it does not use.
-    os.utime(dated(crate), (date, date))
-    if crate == STATIC:
-        build_archive(most_jobs(), date)
+    for goal in goals:
+        # It may be older than a source of a crate that it does not use.
+        os.utime(dated(goal), (date, date))
     for folder in locked:
         os.close(folder)
 
@@ -267,12 +277,18 @@ def other_kit():
     return "" if told == wanted else f"the proofs are for the kit '{wanted}', and `rt version` says '{told}'\n"
 
 
-if __name__ == "__main__":
-    if len(sys.argv) != 2 or sys.argv[1] not in USES:
-        sys.exit(__doc__)
+def main(names):
+    """Builds what has these names, and says what failed."""
+    what = " and ".join(names)
     try:
-        build(sys.argv[1])
+        build(*names)
     except RuntimeError as error:
-        sys.exit(f"{error}\n{other_kit()}{sys.argv[1]} was not proved or built")
+        sys.exit(f"{error}\n{other_kit()}{what}: not proved or built")
     except KeyboardInterrupt:
-        sys.exit(f"{sys.argv[1]} was not proved or built: it was stopped; what is proved by now is kept")
+        sys.exit(f"{what}: not proved or built, since it was stopped; what is proved by now is kept")
+
+
+if __name__ == "__main__":
+    if len(sys.argv) < 2 or not USES.keys() - {EXPORTS} >= set(sys.argv[1:]):
+        sys.exit(__doc__)
+    main(sys.argv[1:])
