@@ -40,8 +40,10 @@ ALIGNMENT = 32
 """Each function of the static library begins at a multiple of so many bytes. Some processors take a jump across 32 bytes slowly, so
 that where a program has a loop by chance would decide on its time."""
 PROCESSORS = len(os.sched_getaffinity(0))
-MEMORY = 3 * 2**30
-"""As many bytes of memory has to be there for each job of a check."""
+MOST_JOBS = 8
+"""More jobs seldom make a check faster."""
+MEMORY, FURTHER = 2 * 2**30, 2**29
+"""As many bytes of memory have to be there for a check with one job, and for each further job of it."""
 HALF_SPEED = ["nice", "-n", "3"]
 """Where processors are wanted, a process gets about half as much of them with these words before its command."""
 
@@ -52,6 +54,7 @@ def kit():
     return pathlib.Path(subprocess.run(["rt", "doc"], check=True, capture_output=True, text=True).stdout.strip()).parent
 
 
+@functools.lru_cache(maxsize=None)
 def below(crate):
     """The crates of this repository that a crate rests on, the lowest first."""
     return with_below(name for name in USES.get(crate, []) if name in USES)
@@ -102,12 +105,13 @@ def is_current(crate):
     return is_newer and all(made_at(name) <= made_at(crate) and is_current(name) for name in used)
 
 
-def most_jobs():
-    """How many jobs all checks get together, as far as there is memory for them: half as many again as there are
+def room():
+    """How many checks there are side by side, and how many jobs each has, as far as there is memory for them. Each may have all
     processors, since the first and the last seconds of a check are those of one job."""
-    lines = pathlib.Path("/proc/meminfo").read_text().splitlines()
-    free = next(int(line.split()[1]) for line in lines if line.startswith("MemAvailable:"))
-    return max(1, min(PROCESSORS * 3 // 2, free * 1024 // MEMORY))
+    lines_of_host = pathlib.Path("/proc/meminfo").read_text().splitlines()
+    free = 1024 * next(int(line.split()[1]) for line in lines_of_host if line.startswith("MemAvailable:"))
+    jobs = max(1, min(PROCESSORS, MOST_JOBS, 1 + (free - MEMORY) // FURTHER))
+    return max(1, min(PROCESSORS, free // (MEMORY + (jobs - 1) * FURTHER))), jobs
 
 
 def build_words(crate, used, root, kind, jobs):
@@ -189,16 +193,20 @@ def export(crate, text):
     return "".join(written) if functions else ""
 
 
-def write_exports(folder):
-    """Writes the crate of the functions for C, a file for each one of the libraries for C."""
-    (folder / "src").mkdir()
-    sources = {path: crate for crate in FOR_C for path in (CRATES / crate / "src").glob("*.rt")}
+def exports():
+    """The files of the crate of the functions for C by their names, one for each file of the libraries for C that has some."""
+    sources = {path: crate for crate in FOR_C for path in sorted((CRATES / crate / "src").glob("*.rt"))}
     written = {path.stem: export(crate, path.read_text()) for path, crate in sources.items()}
-    modules = sorted(name for name, text in written.items() if text)
-    for name in modules:
-        (folder / f"src/{name}.rt").write_text(written[name])
-    lines = "".join(f"mod {name};\n" for name in modules)
-    (folder / "src/lib.rt").write_text(f"#![tactic(auto)]\n\n{lines}")
+    return {name: text for name, text in sorted(written.items()) if text}
+
+
+def write_exports(folder):
+    """Writes that crate."""
+    (folder / "src").mkdir()
+    for name, text in exports().items():
+        (folder / f"src/{name}.rt").write_text(text)
+    lines_of_root = "".join(f"mod {name};\n" for name in exports())
+    (folder / "src/lib.rt").write_text(f"#![tactic(auto)]\n\n{lines_of_root}")
 
 
 def build_archive(jobs, priority):
@@ -217,6 +225,8 @@ def build_archive(jobs, priority):
 @functools.lru_cache(maxsize=None)
 def lines(crate):
     """How many lines of code and contracts a crate has. The time of a proof is taken to grow with them."""
+    if crate == EXPORTS:
+        return sum(text.count("\n") for text in exports().values())
     return sum(path.read_bytes().count(b"\n") for path in source_files(crate) if path.suffix == ".rt")
 
 
@@ -231,26 +241,20 @@ def chains(crates):
 
 def prove_all(crates, date):
     """Proves crates, each as soon as those that it uses are proved, and dates them. Of those that are ready the one with the
-    longest chain comes first. One that would be in time at half the speed stands aside. The others share the jobs that are free,
-    by their lines."""
-    chain = chains(crates)
-    left, running, idle = sorted(crates, key=lambda crate: -chain[crate]), {}, most_jobs()
-    with concurrent.futures.ThreadPoolExecutor(len(crates) + 1) as pool:
+    longest chain comes first. One that would be in time at half the speed stands aside."""
+    chain, (most, jobs) = chains(crates), room()
+    left, running = sorted(crates, key=lambda crate: -chain[crate]), {}
+    with concurrent.futures.ThreadPoolExecutor(most) as pool:
         while left or running:
-            waited_for = {*left, *(crate for crate, _ in running.values())}
+            waited_for = {*left, *running.values()}
+            longest = max(chain[crate] for crate in waited_for)
             ready = [crate for crate in left if waited_for.isdisjoint(below(crate))]
-            while ready and (idle or not running):
-                crate = ready[0]
-                longest = max(chain[name] for name in (crate, *(name for name, _ in running.values())))
-                aside = [name for name in ready if chain[name] + lines(name) < longest]
-                sharing = [name for name in ready if name not in aside] or [crate]
-                jobs = min(PROCESSORS, max(1, round(idle * lines(crate) / sum(map(lines, sharing)))))
-                ready.remove(crate)
+            for crate in ready[: most - len(running)]:
+                priority = HALF_SPEED if chain[crate] + lines(crate) < longest else []
                 left.remove(crate)
-                running[pool.submit(prove, crate, jobs, HALF_SPEED if crate in aside else [], date)] = crate, jobs
-                idle -= jobs
+                running[pool.submit(prove, crate, jobs, priority, date)] = crate
             for done in concurrent.futures.wait(running, return_when=concurrent.futures.FIRST_COMPLETED).done:
-                idle += running.pop(done)[1]
+                running.pop(done)
                 done.result()
 
 
