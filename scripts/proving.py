@@ -287,9 +287,9 @@ def main(names):
     try:
         build(*names)
     except RuntimeError as error:
-        sys.exit(f"{error}\n{other_kit()}{what}: not proved or built")
+        sys.exit(f"{error}\n{other_kit()}{what}: not all was proved and built")
     except KeyboardInterrupt:
-        sys.exit(f"{what}: not proved or built, since it was stopped; what is proved by now is kept")
+        sys.exit(f"{what}: not all was proved and built, since it was stopped; what is proved by now is kept")
 
 
 if __name__ == "__main__":
