@@ -241,7 +241,8 @@ def chains(crates):
 
 def prove_all(crates, date):
     """Proves crates, each as soon as those that it uses are proved, and dates them. Of those that are ready the one with the
-    longest chain comes first. One that would be in time at half the speed stands aside."""
+    longest chain comes first. One that would be in time at half the speed stands aside; where there are others enough for all
+    processors, it has one job, since with more each module is checked in a copy of the process, which takes more in all."""
     chain, (most, jobs) = chains(crates), room()
     left, running = sorted(crates, key=lambda crate: -chain[crate]), {}
     with concurrent.futures.ThreadPoolExecutor(most) as pool:
@@ -249,10 +250,12 @@ def prove_all(crates, date):
             waited_for = {*left, *running.values()}
             longest = max(chain[crate] for crate in waited_for)
             ready = [crate for crate in left if waited_for.isdisjoint(below(crate))]
+            are_many = len(ready) + len(running) >= PROCESSORS
             for crate in ready[: most - len(running)]:
-                priority = HALF_SPEED if chain[crate] + lines(crate) < longest else []
+                is_aside = chain[crate] + lines(crate) < longest
+                how = 1 if is_aside and are_many else jobs, HALF_SPEED if is_aside else []
                 left.remove(crate)
-                running[pool.submit(prove, crate, jobs, priority, date)] = crate
+                running[pool.submit(prove, crate, *how, date)] = crate
             for done in concurrent.futures.wait(running, return_when=concurrent.futures.FIRST_COMPLETED).done:
                 running.pop(done)
                 done.result()
