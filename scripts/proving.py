@@ -1,6 +1,6 @@
-"""Proves crates, and builds a program or a library from them: `python3 scripts/proving.py NAME`.
+"""Proves crates, and builds programs and a library from them, all in one run: `python3 scripts/proving.py NAME..`.
 
-The crates that NAME uses are proved first, those side by side that do not use one another. Of a library it keeps
+The crates that a NAME uses are proved first, those side by side that do not use one another. Of a library it keeps
 what its contracts say, and not their proofs, since the crates above read no more than that. So it takes less time than
 `rt run` and `rt lib`, which keep the proofs too: those are for whoever changes a crate and checks it again. A library that
 is newer than its sources and than what it uses stays as it is.
@@ -29,6 +29,9 @@ STATIC = "commitgraph_c"
 """The library beside which the static library stands."""
 FOR_C = ("c_opening", "c_writing", STATIC)
 """The libraries of whose functions it is made."""
+EXPORTS = "exports"
+"""The crate that is written here, of which the static library is built."""
+USES[EXPORTS] = list(dict.fromkeys(name for crate in FOR_C for name in (*USES[crate], crate)))
 EXPORTED = re.compile(r"^pub fn (cg_\w+)\((.*?)\)( -> \w+)?(\n.*?)\n\{\n", re.MULTILINE | re.DOTALL)
 """A function for C: its name, its parameters, its result and its contract."""
 USED = re.compile(r"^use (?!crate::)([\w:]+)::(?:\{([^}]*)\}|(\w+));", re.MULTILINE)
@@ -37,8 +40,10 @@ ALIGNMENT = 32
 """Each function of the static library begins at a multiple of so many bytes. Some processors take a jump across 32 bytes slowly, so
 that where a program has a loop by chance would decide on its time."""
 PROCESSORS = len(os.sched_getaffinity(0))
-MEMORY = 3 * 2**30
-"""As many bytes of memory has to be there for each job of a check."""
+MOST_JOBS = 8
+"""More jobs seldom make a check faster."""
+MEMORY, FURTHER = 2 * 2**30, 2**29
+"""As many bytes of memory have to be there for a check with one job, and for each further job of it."""
 HALF_SPEED = ["nice", "-n", "3"]
 """Where processors are wanted, a process gets about half as much of them with these words before its command."""
 
@@ -49,6 +54,7 @@ def kit():
     return pathlib.Path(subprocess.run(["rt", "doc"], check=True, capture_output=True, text=True).stdout.strip()).parent
 
 
+@functools.lru_cache(maxsize=None)
 def below(crate):
     """The crates of this repository that a crate rests on, the lowest first."""
     return with_below(name for name in USES.get(crate, []) if name in USES)
@@ -64,7 +70,9 @@ def is_program(crate):
 
 
 def made(crate):
-    """What is built of a crate: a program, or a library's folder."""
+    """What is built of a crate: a program, a library's folder, or the static library."""
+    if crate == EXPORTS:
+        return archive()
     out = CRATES / crate / "out"
     return out / crate if is_program(crate) else out / f"rlib/{crate}.rlib"
 
@@ -93,16 +101,17 @@ def source_files(crate):
 def is_current(crate):
     """Whether a crate is newer than its sources, and not older than what it uses, which is so too."""
     used = [name for name in USES[crate] if name in USES]
-    is_newer = made_at(crate) > max(path.stat().st_mtime for path in source_files(crate))
+    is_newer = made_at(crate) > max((path.stat().st_mtime for path in source_files(crate)), default=0)
     return is_newer and all(made_at(name) <= made_at(crate) and is_current(name) for name in used)
 
 
-def most_jobs():
-    """How many jobs all checks get together, as far as there is memory for them: half as many again as there are
+def room():
+    """How many checks there are side by side, and how many jobs each has, as far as there is memory for them. Each may have all
     processors, since the first and the last seconds of a check are those of one job."""
-    lines = pathlib.Path("/proc/meminfo").read_text().splitlines()
-    free = next(int(line.split()[1]) for line in lines if line.startswith("MemAvailable:"))
-    return max(1, min(PROCESSORS * 3 // 2, free * 1024 // MEMORY))
+    lines_of_host = pathlib.Path("/proc/meminfo").read_text().splitlines()
+    free = 1024 * next(int(line.split()[1]) for line in lines_of_host if line.startswith("MemAvailable:"))
+    jobs = max(1, min(PROCESSORS, MOST_JOBS, 1 + (free - MEMORY) // FURTHER))
+    return max(1, min(PROCESSORS, free // (MEMORY + (jobs - 1) * FURTHER))), jobs
 
 
 def build_words(crate, used, root, kind, jobs):
@@ -141,9 +150,9 @@ def prove_in(folder, words):
         raise RuntimeError(said[-4000:])
 
 
-def prove(crate, jobs, priority=(), date=None):
-    """Proves and builds one crate. It is dated to the start, so that a source that is edited meanwhile is newer than it."""
-    started, to = time.time(), made(crate)
+def build_crate(crate, jobs, priority):
+    """Proves and builds a crate of this repository."""
+    to = made(crate)
     if is_program(crate):
         root, kind = "main", [*linked(), "-o", f"{to}.o"]
     else:
@@ -153,8 +162,14 @@ def prove(crate, jobs, priority=(), date=None):
     prove_in(CRATES / crate, [*priority, *build_words(crate, USES[crate], root, kind, jobs)])
     if is_program(crate):
         run(link_words(to), CRATES / crate)
-    os.utime(dated(crate), (date or started,) * 2)
-    print(f"{crate}: proved in {time.time() - started:.0f} s", flush=True)
+
+
+def prove(crate, jobs, priority, date):
+    """Proves and builds what has this name. It is dated to the start, so that a source that is edited meanwhile is newer than it."""
+    started = time.time()
+    (build_archive if crate == EXPORTS else functools.partial(build_crate, crate))(jobs, priority)
+    os.utime(dated(crate), (date, date))
+    print(f"{dated(crate).name if crate == EXPORTS else crate}: proved in {time.time() - started:.0f} s", flush=True)
 
 
 def linked():
@@ -178,35 +193,40 @@ def export(crate, text):
     return "".join(written) if functions else ""
 
 
-def write_exports(folder):
-    """Writes the crate of the functions for C, a file for each one of the libraries for C."""
-    (folder / "src").mkdir()
-    sources = {path: crate for crate in FOR_C for path in (CRATES / crate / "src").glob("*.rt")}
+def exports():
+    """The files of the crate of the functions for C by their names, one for each file of the libraries for C that has some."""
+    sources = {path: crate for crate in FOR_C for path in sorted((CRATES / crate / "src").glob("*.rt"))}
     written = {path.stem: export(crate, path.read_text()) for path, crate in sources.items()}
-    modules = sorted(name for name, text in written.items() if text)
-    for name in modules:
-        (folder / f"src/{name}.rt").write_text(written[name])
-    lines = "".join(f"mod {name};\n" for name in modules)
-    (folder / "src/lib.rt").write_text(f"#![tactic(auto)]\n\n{lines}")
+    return {name: text for name, text in sorted(written.items()) if text}
 
 
-def build_archive(jobs, date=None):
-    """Proves and builds the static library, over those for C. It is dated as a crate is. No file of its crate stays, since the
-    kit's gate takes code in the folders of crates alone."""
-    started = time.time()
-    kind = ["--crate-type", "staticlib", *linked(), "-o", archive()]
+def write_exports(folder):
+    """Writes that crate."""
+    (folder / "src").mkdir()
+    for name, text in exports().items():
+        (folder / f"src/{name}.rt").write_text(text)
+    lines_of_root = "".join(f"mod {name};\n" for name in exports())
+    (folder / "src/lib.rt").write_text(f"#![tactic(auto)]\n\n{lines_of_root}")
+
+
+def build_archive(jobs, priority):
+    """Proves and builds the static library. No file of its crate stays, since the kit's gate takes code in the folders of crates
+    alone; and a library that was not built to the end has another name."""
+    new = archive().with_suffix(".new")
+    new.parent.mkdir(parents=True, exist_ok=True)
     with tempfile.TemporaryDirectory() as folder:
         write_exports(pathlib.Path(folder))
-        used = list(dict.fromkeys(name for crate in FOR_C for name in (*USES[crate], crate)))
-        prove_in(folder, build_words("exports", used, "lib", kind, jobs))
-    run(["objcopy", "--set-section-alignment", f".text*={ALIGNMENT}", archive()], CRATES / STATIC)
-    os.utime(archive(), (date or started,) * 2)
-    print(f"{archive().name}: proved in {time.time() - started:.0f} s", flush=True)
+        kind = ["--crate-type", "staticlib", *linked(), "-o", new]
+        prove_in(folder, [*priority, *build_words(EXPORTS, USES[EXPORTS], "lib", kind, jobs)])
+    run(["objcopy", "--set-section-alignment", f".text*={ALIGNMENT}", new], new.parent)
+    new.replace(archive())
 
 
 @functools.lru_cache(maxsize=None)
 def lines(crate):
     """How many lines of code and contracts a crate has. The time of a proof is taken to grow with them."""
+    if crate == EXPORTS:
+        return sum(text.count("\n") for text in exports().values())
     return sum(path.read_bytes().count(b"\n") for path in source_files(crate) if path.suffix == ".rt")
 
 
@@ -221,41 +241,38 @@ def chains(crates):
 
 def prove_all(crates, date):
     """Proves crates, each as soon as those that it uses are proved, and dates them. Of those that are ready the one with the
-    longest chain comes first. One that would be in time at half the speed stands aside. The others share the jobs that are free,
-    by their lines."""
-    chain = chains(crates)
-    left, running, idle = sorted(crates, key=lambda crate: -chain[crate]), {}, most_jobs()
-    with concurrent.futures.ThreadPoolExecutor(len(crates) + 1) as pool:
+    longest chain comes first. One that would be in time at half the speed stands aside; where there are others enough for all
+    processors, it has one job, since with more each module is checked in a copy of the process, which takes more in all."""
+    chain, (most, jobs) = chains(crates), room()
+    left, running = sorted(crates, key=lambda crate: -chain[crate]), {}
+    with concurrent.futures.ThreadPoolExecutor(most) as pool:
         while left or running:
-            waited_for = {*left, *(crate for crate, _ in running.values())}
+            waited_for = {*left, *running.values()}
+            longest = max(chain[crate] for crate in waited_for)
             ready = [crate for crate in left if waited_for.isdisjoint(below(crate))]
-            while ready and (idle or not running):
-                crate = ready[0]
-                longest = max(chain[name] for name in (crate, *(name for name, _ in running.values())))
-                aside = [name for name in ready if chain[name] + lines(name) < longest]
-                sharing = [name for name in ready if name not in aside] or [crate]
-                jobs = min(PROCESSORS, max(1, round(idle * lines(crate) / sum(map(lines, sharing)))))
-                ready.remove(crate)
+            are_many = len(ready) + len(running) >= PROCESSORS
+            for crate in ready[: most - len(running)]:
+                is_aside = chain[crate] + lines(crate) < longest
+                how = 1 if is_aside and are_many else jobs, HALF_SPEED if is_aside else []
                 left.remove(crate)
-                running[pool.submit(prove, crate, jobs, HALF_SPEED if crate in aside else [], date)] = crate, jobs
-                idle -= jobs
+                running[pool.submit(prove, crate, *how, date)] = crate
             for done in concurrent.futures.wait(running, return_when=concurrent.futures.FIRST_COMPLETED).done:
-                idle += running.pop(done)[1]
+                running.pop(done)
                 done.result()
 
 
-def build(crate):
-    """Proves and builds a crate, and first what it uses, where a source is newer. No `rt` works in their folders meanwhile."""
-    crates = with_below(FOR_C if crate == STATIC else [crate])
-    locked = [os.open(CRATES / name, os.O_RDONLY) for name in sorted(crates)]
+def build(*names):
+    """Proves and builds crates, and first what they use, where a source is newer. No `rt` works in their folders meanwhile."""
+    goals = [EXPORTS if name == STATIC else name for name in names]
+    crates = with_below(goals)
+    locked = [os.open(CRATES / name, os.O_RDONLY) for name in sorted(crates) if name != EXPORTS]
     for folder in locked:
         fcntl.flock(folder, fcntl.LOCK_EX)
     date = time.time()
     prove_all([name for name in crates if not is_current(name)], date)
-    # The program may be older than a source of a crate that it does not use.
-    os.utime(dated(crate), (date, date))
-    if crate == STATIC:
-        build_archive(most_jobs(), date)
+    for goal in goals:
+        # It may be older than a source of a crate that it does not use.
+        os.utime(dated(goal), (date, date))
     for folder in locked:
         os.close(folder)
 
@@ -267,12 +284,18 @@ def other_kit():
     return "" if told == wanted else f"the proofs are for the kit '{wanted}', and `rt version` says '{told}'\n"
 
 
-if __name__ == "__main__":
-    if len(sys.argv) != 2 or sys.argv[1] not in USES:
-        sys.exit(__doc__)
+def main(names):
+    """Builds what has these names, and says what failed."""
+    what = " and ".join(names)
     try:
-        build(sys.argv[1])
+        build(*names)
     except RuntimeError as error:
-        sys.exit(f"{error}\n{other_kit()}{sys.argv[1]} was not proved or built")
+        sys.exit(f"{error}\n{other_kit()}{what}: not all was proved and built")
     except KeyboardInterrupt:
-        sys.exit(f"{sys.argv[1]} was not proved or built: it was stopped; what is proved by now is kept")
+        sys.exit(f"{what}: not all was proved and built, since it was stopped; what is proved by now is kept")
+
+
+if __name__ == "__main__":
+    if len(sys.argv) < 2 or not USES.keys() - {EXPORTS} >= set(sys.argv[1:]):
+        sys.exit(__doc__)
+    main(sys.argv[1:])

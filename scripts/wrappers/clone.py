@@ -17,7 +17,7 @@ COPIED = (
     *("scripts/guard.sh", "scripts/question.sh"),
     "scripts/new_commits.awk",
     *("scripts/json.awk", "scripts/fields", "scripts/fields.awk", "scripts/explain.awk", "scripts/manual.awk", "scripts/alternates.awk"),
-    *("scripts/install", "scripts/program", "scripts/library", "scripts/package", "bindings/c/commitgraph.h"),
+    *("scripts/install", "scripts/program", "scripts/library", "scripts/package", "scripts/building.sh", "bindings/c/commitgraph.h"),
     *("bindings/c/commitgraph_path.h", "bindings/c/commitgraph.pc", "bindings/c/commitgraph.3", "bindings/c/commitgraph-config.cmake"),
     "bindings/c/commitgraph-config-version.cmake",
     *("crates/graphtool/src/main.rt", "crates/historytool/src/main.rt", "LICENSE-MIT", "LICENSE-APACHE"),
@@ -63,7 +63,7 @@ class Clone:
 
     def put_library(self):
         """Makes the built library, newer than the sources, of a line of text."""
-        for name in ("libcommitgraph.a", "libcommitgraph.so"):
+        for name in ("libcommitgraph_c.a", "libcommitgraph.a", "libcommitgraph.so"):
             self.put("crates/commitgraph_c/out/" + name, "the library\n")
 
     def surroundings(self, **more):

@@ -12,7 +12,7 @@ from wrappers.table import commands, usage
 from wrappers.tools import read, usage_of
 
 ODD_PREFIX = "a prefix's \"$(name)\" *\n;"
-USAGE = "usage: scripts/install PREFIX | --remove PREFIX\n"
+USAGE = "usage: scripts/install [--library] PREFIX | --remove PREFIX\n"
 INSTALLED = {
     *("bin/git-cgraph", "bin/graphtool", "bin/historytool"),
     *("share/man/man1/git-cgraph.1", "share/man/man1/graphtool.1", "share/man/man1/historytool.1"),
@@ -28,16 +28,33 @@ INSTALLED = {
     *("lib/git-cgraph/scripts/locks.sh", "lib/git-cgraph/scripts/write.sh", "lib/git-cgraph/scripts/new_commits.awk"),
     *("lib/git-cgraph/scripts/guard.sh", "lib/git-cgraph/scripts/question.sh"),
     *("lib/git-cgraph/scripts/json.sh", "lib/git-cgraph/scripts/json.awk", "lib/git-cgraph/scripts/fields", "lib/git-cgraph/scripts/fields.awk"),
+    *("share/doc/git-cgraph/LICENSE-MIT", "share/doc/git-cgraph/LICENSE-APACHE", "share/doc/git-cgraph/DIFFERENCES.md"),
+}
+OF_LIBRARY = {
     *("include/commitgraph.h", "include/commitgraph_path.h", "lib/libcommitgraph.a", "lib/libcommitgraph.so", "lib/libcommitgraph.so.0"),
     *("lib/libcommitgraph.so." + version.number(), "lib/pkgconfig/commitgraph.pc", "share/man/man3/commitgraph.3"),
     *("lib/cmake/commitgraph/commitgraph-config.cmake", "lib/cmake/commitgraph/commitgraph-config-version.cmake"),
-    *("share/doc/git-cgraph/LICENSE-MIT", "share/doc/git-cgraph/LICENSE-APACHE", "share/doc/git-cgraph/DIFFERENCES.md"),
 }
+"""What is installed besides with `--library`."""
 OF_ANOTHER = {"graphtool": ("--unchecked", "merge-base", "FROM TO"), "historytool": ("list reads",)}
 """What belongs on the page of the other program."""
 
 COMPLETIONS = ("/usr/share/bash-completion/completions/git", "/etc/bash_completion.d/git", "/usr/share/git/completion/git-completion.bash")
 """Where Git's own completion mostly is."""
+
+PROVES = """#!/bin/sh
+top=${1%/scripts/*}
+shift
+echo "$@" >>"$top/runs"
+for name; do
+    mkdir -p "$top/crates/$name/out"
+    case $name in commitgraph_c) made=lib$name.a ;; *) made=$name ;; esac
+    echo made >"$top/crates/$name/out/$made"
+done
+"""
+"""A `python3` in the place of scripts/proving.py: it notes the names of each run, and makes a file for each name."""
+MAKES = "#!/bin/sh\nwhile [ $# -gt 1 ]; do case $1 in -o | rcD) echo made >\"$2\" ;; esac; shift; done\n"
+"""A tool that makes what it is asked for."""
 
 COMPLETE = """
 . "$1"
@@ -57,10 +74,13 @@ def check_all(results):
         clone = Clone(folder)
         for name in PROGRAMS:
             clone.put_program(name, "printf '<%s>' \"$@\"\n")
+        check_alone(results, clone, os.path.join(folder, "prefix"))
         clone.put_library()
         repository = make_repository(clone, os.path.join(folder, "repository").encode())
         check_words(results, clone)
         check_fresh(results, clone, os.path.join(folder, ODD_PREFIX))
+        check_again(results, clone, os.path.join(folder, "prefix"))
+        check_older(results, clone, os.path.join(folder, "prefix"))
         check_beside(results, clone, os.path.join(folder, "prefix"))
         check_pages(results, clone, os.path.join(folder, "prefix"))
         check_completion(results, clone, repository)
@@ -68,6 +88,9 @@ def check_all(results):
         results.check("scripts/install, nothing is left over", clone.left_over())
     with tempfile.TemporaryDirectory() as folder:
         check_library(results, folder)
+    for words in ([], ["--library"]):
+        with tempfile.TemporaryDirectory() as folder:
+            check_run(results, folder, words)
 
 
 def install(clone, *words, **streams):
@@ -86,24 +109,84 @@ def below(prefix):
 
 def check_words(results, clone):
     """Other words than a prefix end with the usage text."""
-    for words in ([], [""], ["--remove"], ["a", "b"], ["--help"], ["--remove", "a", "b"]):
+    taken = ([], [""], ["a", "b"], ["--help"], ["--remove"], ["--remove", "a", "b"], ["--library"], ["--library", "a", "b"])
+    for words in (*taken, ["--library", "--remove", "a"], ["--remove", "--library", "a"], ["a", "--library"]):
         results.check("scripts/install %s" % " ".join(words), exactly(install(clone, *words), 2, "", USAGE))
     answer = install(clone, "--remove", clone.folder)
     right = answer[:2] == (1, "") and "nothing was put below" in answer.err
     results.check("scripts/install --remove, where nothing was put", None if right else "it is %r" % (answer,))
 
 
-def check_fresh(results, clone, prefix):
-    """A prefix that is not there yet is made, and taken away again; the second time over what is there."""
-    for title in ("into a fresh prefix", "over what is there"):
-        answer = install(clone, prefix)
-        files = {path for path in below(prefix) if not path.endswith("/")}
-        complaint = None if answer.status == 0 and files == INSTALLED else "it is %r with %s" % (answer, sorted(files))
-        results.check("scripts/install, " + title, complaint)
+def files_below(prefix):
+    """The files below a folder, as paths from it."""
+    return {path for path in below(prefix) if not path.endswith("/")}
+
+
+def check_put(results, title, answer, prefix, files):
+    """An installation put just these files."""
+    complaint = None if answer.status == 0 and files_below(prefix) == files else "it is %r with %s" % (answer, sorted(files_below(prefix) ^ files))
+    results.check("scripts/install, " + title, complaint)
+
+
+def check_removed(results, title, clone, prefix):
+    """What was put is taken away, with the prefix that was made for it."""
     answer = install(clone, "--remove", prefix)
     left = os.path.lexists(prefix) and below(prefix)
     complaint = exactly(answer, 0, "") or (None if left is False else "it left %s" % left)
-    results.check("scripts/install --remove, of a prefix that it made", complaint)
+    results.check("scripts/install --remove, " + title, complaint)
+
+
+def check_alone(results, clone, prefix):
+    """The programs are put where no library is built; with it, nothing is put, since it cannot be built."""
+    answer = install(clone, "--library", prefix)
+    right = answer[:2] == (1, "") and "rt" in answer.err and not os.path.lexists(prefix)
+    results.check("scripts/install --library, with no library built and no rt", None if right else "it is %r" % (answer,))
+    check_put(results, "with no library built and no rt", install(clone, prefix), prefix, INSTALLED)
+    check_removed(results, "with no library built", clone, prefix)
+
+
+def check_fresh(results, clone, prefix):
+    """A prefix that is not there yet is made, and taken away again; the second time over what is there."""
+    for words, files in (([], INSTALLED), (["--library"], INSTALLED | OF_LIBRARY)):
+        for title in ("into a fresh prefix", "over what is there"):
+            check_put(results, " ".join([*words, title]), install(clone, *words, prefix), prefix, files)
+        check_removed(results, " ".join([*words, "of a prefix that it made"]), clone, prefix)
+
+
+def check_again(results, clone, prefix):
+    """A library that was put stays as it was where the programs alone are put again, and goes with them. A later one replaces it."""
+    kept = os.path.join(prefix, "lib/libcommitgraph.a")
+    install(clone, "--library", prefix)
+    with open(kept, "w", encoding="ascii") as file:
+        file.write("put before\n")
+    for title in ("over one with the library", "over that once more"):
+        answer = install(clone, prefix)
+        check_put(results, title, answer, prefix, INSTALLED | OF_LIBRARY)
+        right = version.read("lib/libcommitgraph.a", prefix) == "put before\n" and "the library for C stays" in answer.err
+        results.check("scripts/install, %s: the library stays" % title, None if right else "it is %r" % (answer,))
+    check_removed(results, "of a library that stayed", clone, prefix)
+    install(clone, prefix)
+    answer = install(clone, "--library", prefix)
+    check_put(results, "--library over one without it", answer, prefix, INSTALLED | OF_LIBRARY)
+    check_removed(results, "of a library that came later", clone, prefix)
+
+
+def check_older(results, clone, prefix):
+    """What an older version put, by its list, is taken away by another: of its library only where there is a new one."""
+    older = {"lib/libcommitgraph.so.0.0.1", "lib/git-cgraph/scripts/older.sh", "lib/git-cgraph/older/words"}
+    for words, files in (([], INSTALLED | OF_LIBRARY | {"lib/libcommitgraph.so.0.0.1"}), (["--library"], INSTALLED | OF_LIBRARY)):
+        install(clone, "--library", prefix)
+        os.mkdir(os.path.join(prefix, "lib/git-cgraph/older"))
+        noted = version.read("lib/git-cgraph/installed", prefix) + "folder lib/git-cgraph/older\n"
+        for path in sorted(older):
+            version.write(path, "", prefix)
+            noted += "file %s\n" % path
+        version.write("lib/git-cgraph/installed", noted, prefix)
+        title = " ".join([*words, "over what an older version put"])
+        check_put(results, title, install(clone, *words, prefix), prefix, files)
+        left = os.path.lexists(os.path.join(prefix, "lib/git-cgraph/older"))
+        results.check("scripts/install, %s: its folder" % title, "it is there" if left else None)
+        check_removed(results, title, clone, prefix)
 
 
 def check_beside(results, clone, prefix):
@@ -124,11 +207,24 @@ def check_beside(results, clone, prefix):
     results.check("scripts/install, beside a file of the same name", None if right else "it is %r" % (answer,))
     os.remove(os.path.join(prefix, "bin", "graphtool"))
     answer = install(clone, "prefix", cwd=os.path.dirname(prefix))
-    right = answer.status == 0 and INSTALLED < below(prefix)
+    right = answer.status == 0 and INSTALLED < below(prefix) and not OF_LIBRARY & below(prefix)
     results.check("scripts/install, beside other files", None if right else "it is %r" % (answer,))
+    check_header(results, clone, prefix)
     answer = install(clone, "--remove", prefix)
     complaint = exactly(answer, 0, "") or (None if below(prefix) == before else "there is %s" % sorted(below(prefix) ^ before))
     results.check("scripts/install --remove, beside other files", complaint)
+
+
+def check_header(results, clone, prefix):
+    """A header of others is not replaced, also where the programs are there."""
+    before = below(prefix)
+    os.mkdir(os.path.join(prefix, "include"))
+    version.write("include/commitgraph.h", "other\n", prefix)
+    answer = install(clone, "--library", prefix)
+    added = below(prefix) - before
+    right = answer[:2] == (1, "") and "include/commitgraph.h is there" in answer.err and added == {"include/", "include/commitgraph.h"}
+    results.check("scripts/install --library, beside a header of others", None if right else "it is %r" % (answer,))
+    shutil.rmtree(os.path.join(prefix, "include"))
 
 
 def check_closed(results, clone, prefix):
@@ -168,9 +264,8 @@ def check_pages(results, clone, prefix):
 def check_library(results, folder):
     """Where the proofs of changed sources fail, no library is made of what was proved before."""
     clone = Clone(folder)
-    makes = "#!/bin/sh\nwhile [ $# -gt 1 ]; do case $1 in -o | rcD) echo made >\"$2\" ;; esac; shift; done\n"
     for tool in ("rt", "ld", "objcopy", "ar"):
-        clone.put("bin/" + tool, makes)
+        clone.put("bin/" + tool, MAKES)
     proved = "crates/commitgraph_c/out/libcommitgraph_c.a"
     clone.put(proved, "")
     clone.put("bin/python3", "#!/bin/sh\necho 'no proof' >&2\nexit 1\n")
@@ -183,6 +278,31 @@ def check_library(results, folder):
     answer = clone.run(["scripts/library"])
     right = answer.status == 1 and not answer.out and answer.err.endswith("no proof\n")
     results.check("scripts/library, where the proofs fail", None if right else "it is %r" % (answer,))
+
+
+def check_run(results, folder, words):
+    """Where nothing is built, one run proves all that is put; where it fails, nothing is put."""
+    clone, prefix = Clone(folder), os.path.join(folder, "prefix")
+    title = " ".join(["scripts/install", *words])
+    wanted = [*PROGRAMS, *(["commitgraph_c"] if words else [])]
+    clone.put("bin/rt", MAKES)
+    if words:
+        clone.put("bin/python3", PROVES)
+        answer = install(clone, *words, prefix)
+        right = answer[:2] == (1, "") and "the command ld has to be" in answer.err and not os.path.lexists(os.path.join(clone.folder, "runs"))
+        results.check(title + ", with no ld, nothing is proved", None if right else "it is %r" % (answer,))
+    for tool in ("ld", "objcopy", "ar"):
+        clone.put("bin/" + tool, MAKES)
+    clone.put("bin/python3", "#!/bin/sh\necho 'no proof' >&2\nexit 1\n")
+    answer = install(clone, *words, prefix)
+    right = answer[:2] == (1, "") and answer.err.endswith("no proof\n") and not os.path.lexists(prefix)
+    results.check(title + ", where the proofs fail", None if right else "it is %r" % (answer,))
+    clone.put("bin/python3", PROVES)
+    for number in ("first", "second"):
+        answer = install(clone, *words, prefix)
+        check_put(results, " ".join([*words, "the %s time in a clone" % number]), answer, prefix, INSTALLED | (OF_LIBRARY if words else set()))
+    runs = version.read("runs", clone.folder)
+    results.check(title + ", all is proved in one run", None if runs == " ".join(wanted) + "\n" else "the runs are %r" % runs)
 
 
 def words_of_page(name):

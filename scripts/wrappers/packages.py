@@ -8,11 +8,13 @@ import tempfile
 
 import version
 from wrappers.clone import PROGRAMS, Clone, exactly, run
-from wrappers.installs import INSTALLED, below
+from wrappers.installs import INSTALLED, OF_LIBRARY, below
 
 TOOLS = ("gzip", "tar", "uname", "dpkg", "dpkg-deb")
 LIST = "lib/git-cgraph/installed"
 """What scripts/install notes for its own use."""
+PACKED = INSTALLED | OF_LIBRARY
+
 
 def check_all(results):
     """The checks of both packages, made by a copy whose programs write their words."""
@@ -44,7 +46,7 @@ def check_archive(results, clone, made, folder):
     with tarfile.open(os.path.join(made, name + ".tar.gz")) as archive:
         archive.extractall(folder)
     files = {path for path in below(folder) if not path.endswith("/")}
-    right = files == {os.path.join(name, path) for path in INSTALLED - {LIST}}
+    right = files == {os.path.join(name, path) for path in PACKED - {LIST}}
     results.check("the archive has what is installed", None if right else "it has %s" % sorted(files))
     check_commands(results, clone, "the archive", os.path.join(folder, name))
 
@@ -64,10 +66,10 @@ def check_debian(results, clone, made, root):
     answer = run([*dpkg, "--install", package], variables)
     files = {path[len("usr/"):] for path in below(root) if path.startswith("usr/") and not path.endswith("/")}
     documents = "share/doc/git-cgraph/"
-    pages = {path for path in INSTALLED if path.startswith("share/man/")}
+    pages = {path for path in PACKED if path.startswith("share/man/")}
     left = {documents + "LICENSE-MIT", documents + "LICENSE-APACHE", "share/zsh/site-functions/_git-cgraph", *pages, LIST}
     more = {documents + "copyright", "share/zsh/vendor-completions/_git-cgraph", *(page + ".gz" for page in pages)}
-    right = answer.status == 0 and files == INSTALLED - left | more
+    right = answer.status == 0 and files == PACKED - left | more
     results.check("the package for Debian is installed", None if right else "it is %r with %s" % (answer, sorted(files)))
     check_commands(results, clone, "the package for Debian", os.path.join(root, "usr"))
     answer = run([*dpkg, "--purge", "git-cgraph"], variables)
