@@ -21,43 +21,33 @@ refused_by_git() {
     line='refused git 1' status=1
 }
 
-# Why a file cannot be read, or nothing where it can.
-obstacle() {
-    if [ ! -e "$1" ] && [ -L "$1" ]; then
-        echo 'is a link to what is not there'
-    elif [ ! -e "$1" ]; then
-        echo 'is missing'
-    elif [ -d "$1" ]; then
-        echo 'is a folder, not a file'
-    elif [ ! -f "$1" ]; then
-        echo 'is not a file'
-    elif [ ! -r "$1" ]; then
-        echo 'may not be read (permission denied)'
-    fi
+# Sets `cause` to which hashes the ids of the commit-graph and of the repository have.
+name_hashes() {
+    cause="the ids of the commit-graph are of $(name_of_hash "$(kind_of_hash "$(layer_file 0)")"), and those of the repository of $(name_of_hash "$format")"
 }
 
-# Sets `where` to what is wrong with the first file that cannot be read, if there is one, and `reason` to why.
+# The name of a kind of hash, as it is written in sentences.
+name_of_hash() {
+    case $1 in
+    sha1) echo SHA-1 ;;
+    *) echo SHA-256 ;;
+    esac
+}
+
+# Sets `cause` to what is wrong with the first file that cannot be read, if there is one, `file` to that file, and `reason` to why.
 find_obstacle() {
+    reason=''
     case $kind in
     none) return ;;
     file) file=$folder/commit-graph ;;
     chain) file=$(chain_file) ;;
     esac
-    reason=$(obstacle "$file")
-    if [ -n "$reason" ]; then
-        where="the file '$file' $reason"
-        return
-    fi
-    [ "$kind" = chain ] || return 0
-    number=0 layers=$(chain_lines | wc -l)
-    while [ $number -lt "$layers" ]; do
-        file=$(layer_file $number)
-        reason=$(obstacle "$file")
+    ! name_obstacle "$file" && [ "$kind" = chain ] || return 0
+    number=1 layers=$(chain_lines | wc -l)
+    while [ $number -le "$layers" ]; do
+        file=$(layer_file $((number - 1)))
+        ! name_obstacle "$file" "line $number of '$(chain_file)'" || return 0
         number=$((number + 1))
-        if [ -n "$reason" ]; then
-            where="the file '$file', which line $number of '$(chain_file)' names, $reason"
-            return
-        fi
     done
 }
 
@@ -85,12 +75,7 @@ name_file() {
         number=${line#* position }
         number=$(layer_of_position "$place/$graph" "${number%% *}")
         ;;
-    'refused open 4 line '* | 'refused git 2 line '*)
-        file=$(chain_file)
-        where="this is line $((${line##* } + 1)) of '$file'"
-        return
-        ;;
-    'refused open 6 '*)
+    'refused open '[46]' '* | 'refused git 2 '*)
         [ "$kind" = file ] || { file=$(chain_file) && where="the chain file is '$file'"; }
         return
         ;;
@@ -158,7 +143,7 @@ advise() {
 # Sets what `report` says of a refusal beside the text of its row, and `is_absent` where it says nothing of what is written
 # there.
 diagnose() {
-    file=''
+    file='' cause=''
     if [ "$question" = write ]; then
         diagnose_write
         return
@@ -169,6 +154,11 @@ diagnose() {
     'refused open 1' | 'refused open 2' | 'refused open 3') diagnose_opening ;;
     'refused objects '*) diagnose_object ;;
     'the commits of this repository could not be listed') diagnose_listing ;;
+    'refused git 1')
+        name_hashes
+        name_file
+        advise_anew
+        ;;
     'refused '*)
         name_file
         advise_anew
@@ -181,7 +171,7 @@ diagnose() {
 # The same where a file was not opened or not read.
 diagnose_opening() {
     if [ "$kind" = none ] && file=$(closed_folder); then
-        is_absent=yes where="the folder '$file' may not be read (permission denied)"
+        is_absent=yes cause="the folder '$file' may not be read (permission denied)"
         advice="see to it that whoever runs this may enter the folder, and ask again" cure="    ls -ld $(quoted "$file")"
         return
     elif [ "$kind" = none ]; then
@@ -197,6 +187,7 @@ diagnose_opening() {
         return
         ;;
     esac
+    [ "$line,$reason" != 'refused open 3,' ] || return 0
     advice="see to it that whoever runs this may read the file, and ask again"
     cure="    ls -l $(quoted "$file")"
 }
@@ -219,6 +210,7 @@ diagnose_absent() {
 # The same of a commit that the commit-graph lacks. Git writes one that has it where something leads to the commit.
 diagnose_unknown() {
     asked_id=$(printf '%s\n' $ids | sed -n "${line#unknown }p")
+    name_unknown "${line#unknown }"
     look_for_foreign
     look_for_filters
     if ! is_led_to --all --reflog; then
@@ -233,6 +225,16 @@ diagnose_unknown() {
         advice='only a reflog leads to the commit, as to one of several stashes: write the commit-graph with all that reflogs lead to'
         cure=$(writes "$(splits)" '' ' --reflog')
     fi
+}
+
+# Sets `cause` to a sentence on the commit of this number among those that were named, with the word by which the user did.
+name_unknown() {
+    eval "set -- $1 $revisions_given"
+    unknown=$1
+    shift "$unknown"
+    cause="'$1' ($asked_id) is not in the commit-graph"
+    [ "$1" != "$asked_id" ] || cause="the commit $1 is not in the commit-graph"
+    [ "$unknown" -eq 1 ] || cause="$cause; the commits named before it are"
 }
 
 # Whether some words of `git rev-list`, as --all, lead to the commit that was asked for, or whether Git cannot tell.

@@ -45,7 +45,7 @@ write_object() {
     (last_object) 2>/dev/null && return
     passed=$?
     [ $passed -le 128 ] || exit $passed
-    line='the answer could not be written' status=2 ending=128 beside='' commit='' where='' advice='' cure=''
+    line='the answer could not be written' status=2 ending=128 beside='' commit='' cause='' where='' advice='' cure=''
     said="$name: $line$newline"
 }
 

@@ -30,6 +30,8 @@ while [ $left -gt 0 ]; do
     left=$((left - looked_at))
 done
 takes_ids $# || wrong_words "'$word' takes $(revisions)"
+revisions_given=''
+for revision in "$@"; do revisions_given="$revisions_given $(quoted "$revision")"; done
 [ -z "$jobs" ] || [ -n "$objects_too" ] || wrong_words "'--jobs' goes with '--objects'"
 [ "$word" != ask ] || refuse_for_ask
 [ -z "$quiet" ] || json=''
@@ -54,14 +56,10 @@ if shows_progress; then
     set_delay
     run=watched
 fi
-[ "$word" != write ] && refused_by_git || case $word,$objects_too,$all_checks in
-write,*) write_graph ;;
-list,*) list_graph ;;
-show,*) show_graph ;;
-verify,yes,*) verify_objects ;;
-verify,,yes) ask_all ;;
-ask,*) ask_questions ;;
-*) ask_program ;;
+case $word in
+write) write_graph ;;
+show) show_graph ;;
+*) refused_by_git || answer_question ;;
 esac
 [ "$passed" -le 128 ] || exit "$passed"
 write_held

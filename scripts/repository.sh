@@ -79,10 +79,6 @@ look_for_folders() {
     folders=$folders$(git count-objects -v 2>/dev/null | LC_ALL=C awk -f "$top/scripts/alternates.awk")
 }
 
-is_there() {
-    [ -e "$1" ] || [ -L "$1" ]
-}
-
 # Sets `home`, `folder` and `kind` to the first object folder that has a commit-graph, and to the first of all where none
 # has one. Where an object folder was named, that one counts.
 find_graph() {
@@ -106,9 +102,9 @@ chain_file() {
     printf '%s\n' "$folder/commit-graphs/commit-graph-chain"
 }
 
-# The lines of the chain file as the programs read them, the last one with an end too: a CR before an end is left out.
+# The lines of the chain file.
 chain_lines() {
-    { LC_ALL=C sed "s/$(printf '\r')\$//" "$(chain_file)" 2>/dev/null && echo; } | sed '${/^$/d;}'
+    lines_of "$(chain_file)"
 }
 
 # The path of the layer that a line of the chain names, in the first object folder that has it.

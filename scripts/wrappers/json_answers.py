@@ -430,8 +430,6 @@ def told_by(fields):
         said.append(error)
     if " position " in error and "commit" in fields:
         said.append("the commit at position %s is %s" % (error.split(" position ")[1].split()[0], fields["commit"]))
-    if error.startswith("unknown "):
-        said.append("id %s is %s" % (error.split()[1], fields["commit"]))
     said += fields.get("warnings", [])
     said += [fields[name] for name in ("reason", "where") if name in fields]
     if "advice" in fields:

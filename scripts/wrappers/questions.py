@@ -74,6 +74,7 @@ CONTENT = "CGPH\1\1\3\0" + TABLE
 """A header and a table of chunks, by which there are no filters."""
 
 NEWER = "if the commit is newer than the commit-graph, write that again"
+LACKED = "'%s' (%s) is not in the commit-graph"
 
 
 def check_all(results):
@@ -88,6 +89,7 @@ def check_all(results):
             if shutil.which(shell[0]):
                 check_questions(results, clone, repository, shell)
         check_statuses(results, clone, repository)
+        check_lacked(results, clone, repository)
         check_repeated(results, clone, repository)
         check_revisions(results, clone, repository)
         check_ends(results, clone, repository)
@@ -226,10 +228,11 @@ def check_statuses(results, clone, repository):
         answer = ask(clone, [word, *revisions], repository)
         cure = anew(folder, "commit-graph")
         where = "the file is '%s/commit-graph'" % folder if "layer" in line else ""
-        known = refusals.Known("", NEWER, cure[1:]) if line == "unknown 1" else refusals.Known(where, "", cure)
-        sentences = refusals.sentences(rows, line, word, known) if line not in ("yes", "no", "none") else []
+        known = refusals.Known(where, "", cure)
         if line == "unknown 1":
-            sentences.insert(0, "id 1 is " + git(clone, repository, "rev-parse", revisions[0]))
+            cause = LACKED % (revisions[0], git(clone, repository, "rev-parse", revisions[0]))
+            known = refusals.Known("", NEWER, cure[1:], cause=cause)
+        sentences = refusals.sentences(rows, line, word, known) if line not in ("yes", "no", "none") else []
         results.check("git cgraph %s, answered %r" % (word, line), exactly(answer, expected, line + "\n", said(sentences)))
     clone.put_program("historytool", "echo \"$1\"\n")
     for words, out in (
@@ -249,6 +252,23 @@ def check_statuses(results, clone, repository):
     answer = ask(clone, ["check"], repository)
     err = "usage: other words\n" + said(["the program does not take these words"])
     results.check("git cgraph check, of a program without it", exactly(answer, 128, "", err))
+
+
+def check_lacked(results, clone, repository):
+    """A commit that the commit-graph lacks is named by the word that the user has for it."""
+    rows, cure = refusals.read_rows(), anew("", "commit-graph")[1:]
+    head, before = (git(clone, repository, "rev-parse", name) for name in ("HEAD", "HEAD~1"))
+    for words, number, cause in (
+        ([ODD_REF, "HEAD"], 1, LACKED % (ODD_REF, head)),
+        (["HEAD", "-q", "annotated"], 2, LACKED % ("annotated", before) + "; the commits named before it are"),
+        (["--", ":/first", "HEAD"], 1, LACKED % (":/first", before)),
+        (["HEAD", head], 2, "the commit %s is not in the commit-graph; the commits named before it are" % head),
+    ):
+        line = "unknown %d" % number
+        clone.put_program("historytool", "echo '%s'\nexit 1\n" % line)
+        err = said(refusals.sentences(rows, line, "walk", refusals.Known("", NEWER, cure, cause=cause)))
+        answer = ask(clone, ["walk", *words], repository)
+        results.check("git cgraph walk %s, %s" % (" ".join(words), line), exactly(answer, 128, "" if "-q" in words else line + "\n", err))
 
 
 def check_repeated(results, clone, repository):
@@ -337,10 +357,13 @@ def check_ends(results, clone, repository):
         err = sentences.replace("git cgraph", name)
         right = (141, "0 0000000000\n", "") if name == "git-cgraph" else (2, "0 0000000000\n", err)
         results.check("%s, nobody reads on" % name, None if answer == right else "it is %r" % (answer,))
-    clone.put_program("graphtool", "kill -9 $$\n")
-    ended = "ended by signal 9"
-    answer = ask(clone, ["verify"], repository)
-    results.check("git cgraph, " + ended, exactly(answer, 137, "", said([ended, *refusals.sentences(rows, ended)])))
+    for number in (signal.SIGKILL, signal.SIGXFSZ, signal.SIGSEGV):
+        clone.put_program("graphtool", "kill -%d $$\n" % number)
+        ended = "ended by signal %d" % number
+        answer = ask(clone, ["verify"], repository)
+        sentences = said([ended, *refusals.sentences(rows, ended)])
+        right = number.name in sentences and ("memory" in sentences) == (number == signal.SIGKILL)
+        results.check("git cgraph, " + ended, exactly(answer, 128 + number, "", sentences) if right else "it is %r" % sentences)
     for number in (signal.SIGINT, signal.SIGTERM, signal.SIGHUP):
         results.check("git cgraph, sent %s" % number.name, interrupted(clone, repository, number))
     results.check("git cgraph, ended by itself", ended_alone(clone, repository))

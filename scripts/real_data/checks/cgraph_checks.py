@@ -24,6 +24,7 @@ from wrappers.json_answers import difference, objects_in
 from wrappers.tools import read
 
 ODD_TAG = "odd';$(id)\"&|<>`\u00e9!#%"
+ELSEWHERE = "see whether another object folder has it: 'graphtool' looks into no other, and 'git cgraph' does. Else write it anew"
 SHORTEST = 4
 """The fewest digits by which Git looks for an id."""
 
@@ -421,14 +422,41 @@ def check_refusal(installed, results, repository, case):
     commit = ["the commit at position %s is %s" % at for at in [position_in(line, layers)] if at]
     words = [os.path.join(installed.prefix, "bin", "graphtool"), "verify", repository.graph_path() if is_file else info]
     answer = run(words, installed.variables)
-    known = refusals.Known(file_in(line, layers, repository.graph_path() if is_file else os.path.join(info, trees.GRAPHS), is_file))
+    where = file_in(line, layers, repository.graph_path() if is_file else os.path.join(info, trees.GRAPHS), is_file)
+    cause, advice = obstacle_in(info) if line == wrong_trees.NOT_OPENED else ("", "")
+    opened = "'%s'" % repository.graph_path() if is_file else files_in(info)
+    known = refusals.Known(where, advice, cause=cause, opened=opened)
     err = refusals.written("graphtool", [*commit, *refusals.sentences(rows, line.strip(), "verify", known)])
     complaint = None if answer == (1, line, err) else "it is %r, expected %r" % (answer, (1, line, err))
     results.check("graphtool verify, %s, in sentences" % name, complaint)
     there = any(os.path.lexists(path) for path in (repository.graph_path(), os.path.join(info, trees.CHAIN)))
-    text = line.strip() if there else "there is no commit-graph"
-    start = refusals.written("git cgraph", [*([] if there else [text]), *commit, refusals.sentences(rows, text, "verify")[0]])
+    text, known = (line.strip(), refusals.Known(cause=cause)) if there else ("there is no commit-graph", None)
+    start = refusals.written("git cgraph", [*([] if there else [text]), *commit, refusals.sentences(rows, text, "verify", known)[0]])
     check_cure(installed, results, repository, (name, line, 1 if there else 128, start))
+
+
+def files_in(info):
+    """The files of the commit-graph in an info folder, as they are named where they have to go away."""
+    forms = ((trees.FILE, "'%s'"), (trees.GRAPHS, "the folder '%s'"))
+    return " and ".join(form % os.path.join(info, name) for name, form in forms if os.path.lexists(os.path.join(info, name)))
+
+
+def obstacle_in(info):
+    """What is wrong with the first file of a commit-graph in an info folder that is not there or is a folder, and what to do."""
+    file, chain = (os.path.join(info, name) for name in (trees.FILE, trees.CHAIN))
+    if not os.path.lexists(chain):
+        folder = "the file '%s' is a folder, not a file" % file, refusals.ANEW
+        return folder if os.path.isdir(file) else ("there is neither '%s' nor a chain file '%s'" % (file, chain), "")
+    if os.path.isdir(chain):
+        return "the file '%s' is a folder, not a file" % chain, refusals.ANEW
+    for number, line in enumerate(read_bytes(chain).splitlines(), 1):
+        layer = os.path.join(os.path.dirname(chain), "graph-%s.graph" % os.fsdecode(line))
+        names = "the file '%s', which line %d of '%s' names, " % (layer, number, chain)
+        if not os.path.lexists(layer):
+            return names + "is missing", ELSEWHERE
+        if os.path.isdir(layer):
+            return names + "is a folder, not a file", refusals.ANEW
+    raise ValueError("all files are there")
 
 
 def check_cure(installed, results, repository, case):
