@@ -194,7 +194,7 @@ diagnose_opening() {
 
 # The same where there is no commit-graph.
 diagnose_absent() {
-    is_absent=yes line='there is no commit-graph' file=''
+    is_absent=yes has_none=yes line='there is no commit-graph' file=''
     said="$name: $line$newline"
     look_for_foreign
     look_for_filters

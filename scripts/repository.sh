@@ -20,9 +20,10 @@ from_root() {
 
 # Sets what one call of Git says of the repository: `objects`, `format`, the kind of its ids, `is_shallow`, and `common`, the
 # folder that its worktrees share. A path may have line ends of its own. Revisions are named in the same call, and `ids`
-# has their ids then; where Git does not answer with just one id for each, `ids` stays empty.
+# has their ids then; where Git does not answer with just one id for each, `ids` stays empty. `repository` is the folder by
+# which an object names the repository: where Git tells of none, that of the question.
 look_at_repository() {
-    ids='' words=''
+    ids='' words='' repository=$(pwd -P)
     for revision in "$@"; do
         case $revision in
         :/*) words="$words $(quoted "$revision")" ;;
@@ -38,6 +39,7 @@ look_at_repository() {
     rest=${rest#*"$newline"}
     is_shallow=${rest%%"$newline"*}
     common=$(from_root "${rest#*"$newline"}") || refuse_folder "${rest#*"$newline"}"
+    repository=$common
     case $info in
     info) objects=$(pwd -P) ;;
     *) objects=$(from_root "${info%/info}") || refuse_folder "${info%/info}" ;;

@@ -251,7 +251,8 @@ def check_told(results, written):
     results.check("git cgraph write -q", exactly(written.write("-q"), 0, ""))
     path = os.path.join(written.info, "commit-graph")
     answer = written.write("--json")
-    fields = {"command": "write", "status": 0, "commit_graph": path, "commits": len(ids)}
+    repository = os.path.join(written.folder, ".git")
+    fields = {"command": "write", "status": 0, "repository": repository, "commit_graph": path, "commits": len(ids)}
     results.check("git cgraph write --json", None if objects_in(answer.out) == [fields] and not answer.err else "it is %r" % (answer,))
     answer = written.write("--json", "--split")
     fields = {**fields, "commits": 0, "warnings": [NOTHING]}

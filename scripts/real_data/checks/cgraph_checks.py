@@ -142,12 +142,16 @@ def check_examples(installed, results, folder):
 
 
 def check_recipes(installed, results, folder, repository):
-    """The recipes of the manual, for a folder of repositories, where all is right and where a commit-graph is damaged."""
+    """The recipes of the manual, for a folder of repositories, where all is right and where a commit-graph is damaged. One has none,
+    of which nothing is said, and each is named in JSON.
+    """
     recipes = re.search(r"## Recipes\n(.*?)\n## ", read("docs", "MANUAL.md"), re.DOTALL).group(1)
     repository.add(shapes.diamonds(2))
     repository.write_graph()
     os.mkdir(folder)
     os.symlink(repository.folder, os.path.join(folder, "project.git"))
+    installed.git(Way(folder), "init", "-q", "--bare", "none.git")
+    both = {os.path.realpath(os.path.join(folder, name)) for name in ("project.git", "none.git")}
     for damaged in (False, True):
         for line in re.findall(r"^    (?:0 \d \* \* [*0] )?(.*)$", recipes, re.MULTILINE):
             if "--objects" in line and not installed.knows_objects:
@@ -160,6 +164,7 @@ def check_recipes(installed, results, folder, repository):
             told = repository.graph_path() in answer.err if damaged and " write " not in line else not answer.err
             ends = bool(answer.status) == (damaged and " write " not in line and not line.startswith("find"))
             right = told and ends and is_json(answer.out) == ("--json" in line)
+            right = right and (not answer.out.startswith("{") or {last["repository"] for last in objects_in(answer.out)} == both)
             title = "the recipe %r, of a %s commit-graph" % (line, "damaged" if damaged else "right")
             results.check(title, None if right else "it is %r" % (answer,))
             repository.write_graph()
