@@ -246,3 +246,27 @@ is_led_to() {
 splits() {
     [ "$kind" != chain ] || echo ' --split'
 }
+
+# Says what a refusal among the answers to questions means. Where the file of the commit-graph is refused, the program speaks of the
+# chain, which is not there: what is wrong with the file is asked of it by itself. Files of a moment have a folder of their own.
+tell_refusal() {
+    scratch='' line=$1 status=1 said=''
+    if [ -n "$unchecked" ]; then
+        say "the answer is '$line'"
+    else
+        say "the answer is '$line': the commit-graph that was read before still counts"
+    fi
+    find_graph
+    if [ "$kind" = file ] && ! is_there "$(chain_file)"; then
+        place=$home graph=info/commit-graph
+        line=$(in_place "$program" ask "$graph" </dev/null 2>/dev/null | head -n 1)
+        [ "$line" = "$1" ] || say "the file by itself gets '$line'"
+    fi
+    case $line in
+    'refused '*)
+        diagnose
+        report ask "$place/$graph"
+        ;;
+    *) say "it is another one now: ask 'reload' again" ;;
+    esac
+}

@@ -94,6 +94,9 @@ def check_all(results):
         check_statuses(results, clone, repository)
         check_lacked(results, clone, repository)
         check_repeated(results, clone, repository)
+        for shell in SHELLS:
+            if shutil.which(shell[0]):
+                check_reload(results, clone, repository, shell)
         check_revisions(results, clone, repository)
         check_ends(results, clone, repository)
         results.check("git cgraph, nothing is left over", clone.left_over())
@@ -310,6 +313,51 @@ def check_repeated(results, clone, repository):
         results.check(title, exactly(answer, *wanted))
     shutil.rmtree(os.path.join(info, b"commit-graphs"))
     os.rename(os.path.join(info, b"aside"), os.path.join(info, b"commit-graph"))
+
+
+RELOADS = """
+case $* in
+*info/commit-graph) echo 'refused verify 4 layer 0 fault 1'; exit 1 ;;
+esac
+printf 'ok commits 2\\n\\n'
+while read -r question; do
+    case $question in
+    gone) mv '{info}/commit-graph' '{info}/aside'; echo yes ;;
+    *) echo "$question" ;;
+    esac
+    echo
+done
+"""
+"""A program that answers each question by the question itself. By one of them the commit-graph goes away."""
+
+
+def check_reload(results, clone, repository, shell):
+    """Where `reload` is refused, that is told once, with the file and what is wrong with it by itself."""
+    plain = os.path.join(os.path.dirname(repository), b"asked")
+    os.rename(repository, plain)
+    info = os.path.join(plain, b".git/objects/info").decode()
+    clone.put_program("historytool", RELOADS.format(info=info))
+    rows, refused, fault = refusals.read_rows(), "refused open 2", "refused verify 4 layer 0 fault 1"
+    still = "the answer is '%s': the commit-graph that was read before still counts"
+    by_itself = ["the file by itself gets '%s'" % fault]
+    known = refusals.Known("the file is '%s/commit-graph'" % info, "", anew(info, "commit-graph"))
+    wrong = by_itself + refusals.sentences(rows, fault, "ask", known)
+    absent = "there is no commit-graph"
+    none = [absent, *refusals.sentences(rows, absent, "ask", refusals.Known("", "have Git write one", anew(info, "commit-graph")[1:]))]
+    for words, lines, err in (
+        ([], ["yes", refused, "refused question", refused, "refused walk", "no"], [still % refused, *wrong]),
+        ([], [refused, "ok commits 2", refused], [still % refused, *wrong] * 2),
+        (["--unchecked"], [refused, refused, fault], ["the answer is '%s'" % refused, *wrong, "the answer is '%s'" % fault, *wrong[1:]]),
+        ([], ["refused verify 10"], [still % "refused verify 10", *by_itself, *wrong[1:]]),
+        ([], ["yes", "no", "refused question"], []),
+        ([], ["gone", refused, refused], [still % refused, *none]),
+    ):
+        answer = ask(clone, ["ask", *words], plain, shell, input="".join(line + "\n" for line in lines).encode())
+        out = "".join(("yes" if line == "gone" else line) + "\n\n" for line in ["ok commits 2", *lines])
+        title = "%s git-cgraph %s, answered %s" % (" ".join(shell), " ".join(["ask", *words]), ", ".join(lines))
+        results.check(title, exactly(answer, 0, out, said(err)))
+    os.rename(info + "/aside", info + "/commit-graph")
+    os.rename(plain, repository)
 
 
 def check_revisions(results, clone, repository):
