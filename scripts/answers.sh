@@ -277,11 +277,11 @@ layer_of_position() {
 # what these may lose. Each is empty where nothing is known. In the form `json` it writes the fields of an object, with the path
 # `file`, if `cause` or `where` speaks of it, and with `warnings`.
 explain() {
-    form=$1 command=$2 path=$3 about=$cause$where
+    form=$1 command=$2 path=$3 names_file=$cause$where
     shift 3
     NAME=$name FORM=$form LINE=$line COMMAND=$command IDS=$* COMMIT=${commit:-$(commit_at "$path")} BESIDE=$beside \
-        CAUSE=$cause WHERE=$where FILE=${about:+$file} ADVICE=$advice OPENED=$opened CURE=$cure NOTE=$note WARNINGS=$warnings \
-        SIGNAL=$(signal_named) LC_ALL=C awk -f "$top/scripts/json.awk" -f "$top/scripts/explain.awk" "$top/docs/REFUSALS.md"
+        CAUSE=$cause WHERE=$where FILE=${names_file:+$file} ADVICE=$advice OPENED=$opened CURE=$cure NOTE=$note \
+        WARNINGS=$warnings SIGNAL=$(signal_named) LC_ALL=C awk -f "$top/scripts/json.awk" -f "$top/scripts/explain.awk" "$top/docs/REFUSALS.md"
 }
 
 # The number and the name of the signal that ended a program.

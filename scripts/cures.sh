@@ -229,7 +229,7 @@ diagnose_unknown() {
 
 # Sets `cause` to a sentence on the commit of this number among those that were named, with the word by which the user did.
 name_unknown() {
-    eval "set -- $1 $revisions_given"
+    eval "set -- $1 $named_commits"
     unknown=$1
     shift "$unknown"
     cause="'$1' ($asked_id) is not in the commit-graph"

@@ -30,8 +30,6 @@ while [ $left -gt 0 ]; do
     left=$((left - looked_at))
 done
 takes_ids $# || wrong_words "'$word' takes $(revisions)"
-revisions_given=''
-for revision in "$@"; do revisions_given="$revisions_given $(quoted "$revision")"; done
 [ -z "$jobs" ] || [ -n "$objects_too" ] || wrong_words "'--jobs' goes with '--objects'"
 [ "$word" != ask ] || refuse_for_ask
 [ -z "$quiet" ] || json=''

@@ -20,14 +20,18 @@ from_root() {
 
 # Sets what one call of Git says of the repository: `objects`, `format`, the kind of its ids, `is_shallow`, and `common`, the
 # folder that its worktrees share. A path may have line ends of its own. Revisions are named in the same call, and `ids`
-# has their ids then; where Git does not answer with just one id for each, `ids` stays empty. `repository` is the folder by
-# which an object names the repository: where Git tells of none, that of the question.
+# has their ids then; where Git does not answer with just one id for each, `ids` stays empty. `named_commits` has the revisions, each
+# as a word of a shell. `repository` is the folder by which an object names the repository: where Git tells of none, that of
+# the question.
 look_at_repository() {
-    ids='' words='' repository=$(pwd -P)
+    ids='' words='' named_commits=''
+    [ -z "$json" ] || repository=$(pwd -P)
     for revision in "$@"; do
+        by_user=$(quoted "$revision")
+        named_commits="$named_commits $by_user"
         case $revision in
-        :/*) words="$words $(quoted "$revision")" ;;
-        *) words="$words $(quoted "$revision^{commit}")" ;;
+        :/*) words="$words $by_user" ;;
+        *) words="$words $by_user'^{commit}'" ;;
         esac
     done
     if [ $# -eq 0 ] || ! told=$(eval "look_up_by_git $words" 2>/dev/null) || ! take_ids $#; then

@@ -97,6 +97,7 @@ def check_all(results):
         for shell in SHELLS:
             if shutil.which(shell[0]):
                 check_reload(results, clone, repository, shell)
+        check_asked(results, clone, repository)
         check_revisions(results, clone, repository)
         check_ends(results, clone, repository)
         results.check("git cgraph, nothing is left over", clone.left_over())
@@ -358,6 +359,25 @@ def check_reload(results, clone, repository, shell):
         results.check(title, exactly(answer, 0, out, said(err)))
     os.rename(info + "/aside", info + "/commit-graph")
     os.rename(plain, repository)
+
+
+def check_asked(results, clone, repository):
+    """How `ask` ends where nobody reads the answers, where there is no room for them, and without standard error."""
+    clone.put_program("historytool", "printf 'ok commits 2\\n\\n'\ncat\n")
+    path, asked = os.path.join(clone.folder, "git-cgraph"), b"refused open 2\n\n" * 3
+    unwritten = "the answer could not be written"
+    err = said([unwritten, *refusals.sentences(refusals.read_rows(), unwritten)])
+    reading, writing = os.pipe()
+    os.close(reading)
+    answer = run([path, "ask"], clone.surroundings(), cwd=repository, input=asked, stdout=writing)
+    os.close(writing)
+    results.check("git-cgraph ask, nobody reads", exactly(answer, 141, ""))
+    with open("/dev/full", "wb") as full:
+        answer = run([path, "ask"], clone.surroundings(), cwd=repository, input=asked, stdout=full)
+    right = answer.status == 128 and answer.err.endswith(err)
+    results.check("git-cgraph ask, to a full device", None if right else "it is %r" % (answer,))
+    answer = run([path, "ask"], clone.surroundings(), cwd=repository, input=asked, stderr=None, preexec_fn=lambda: os.close(2))
+    results.check("git-cgraph ask, with no standard error", exactly(answer, 0, "ok commits 2\n\n" + asked.decode()))
 
 
 def check_revisions(results, clone, repository):
