@@ -7,6 +7,7 @@ import tempfile
 
 import refusals
 from wrappers.clone import Clone, exactly
+from wrappers.json_answers import objects_in
 from wrappers.questions import anew, ask, git, make_repository, said
 
 PERSON = ("-c", "user.name=A", "-c", "user.email=a@example.com")
@@ -161,6 +162,9 @@ def check_other_hash(results, shown):
         out = lines_of(path, line + "\n").replace("sha1", "sha256")
         results.check("git cgraph show, of the other hash, %s" % verdict, exactly(shown.ask(), 1, out, err))
         results.check("git cgraph show -q, of the other hash, %s" % verdict, exactly(shown.ask("-q"), 1, "", err))
+    (last,) = objects_in(shown.ask("--json").out)
+    right = [layer["hash"] for layer in last["layers"]] == ["sha256"] and (last["error"], last["reason"]) == (line, cause)
+    results.check("git cgraph show --json, of the other hash", None if right else "it is %r" % last)
     shown.put("refused open 5 layer 0 file 4\n", 1)
     results.check("git cgraph show, of the other hash, and no layer", exactly(shown.ask(), 1, line + "\n", err))
     with open(path, "wb") as file:

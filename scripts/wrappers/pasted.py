@@ -448,7 +448,8 @@ UNUSED = (
 
 LACKING = (
     Row("no commit-graph", "diagnose_absent", nothing, ["verify"], (GIT_WRITES,), spots=ALL),
-    Row("a lost chain file over filters", "diagnose_absent", lost_chain, ["verify"], (GIT_WRITES + " --changed-paths",)),
+    *(Row(" ".join(["a lost chain file over filters,", *words]), "diagnose_absent", lost_chain, words, (GIT_WRITES + " --changed-paths",),
+          "there is no commit-graph") for words in (["verify"], ["show", "--if-exists"])),
     Row("a commit of a branch", "diagnose_unknown", later("refs/heads/later"), ["is-ancestor", "main", "{asked}"], (GIT_WRITES,),
         "newer than the commit-graph", has_asked, ALL),
     Row("a commit of a stash", "diagnose_unknown", later("refs/stash"), ["is-ancestor", "main", "{asked}"], (GIT_WRITES,),
