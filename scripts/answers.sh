@@ -209,7 +209,9 @@ find_obstacle_at() {
     case $reason in
     '') ;;
     'may not be read'*) advice='see to it that whoever runs this may read the file, and ask again' ;;
-    'is missing') advice="see whether another object folder has it: '$name' looks into no other, and 'git cgraph' does. Else write it anew" ;;
+    'is missing')
+        advice="see whether another object folder has it: '$name' looks into no other, and 'git cgraph' does. Else write it anew"
+        ;;
     *) advice='write it anew' ;;
     esac
 }

@@ -20,9 +20,9 @@ from_root() {
 
 # Sets what one call of Git says of the repository: `objects`, `format`, the kind of its ids, `is_shallow`, and `common`, the
 # folder that its worktrees share. A path may have line ends of its own. Revisions are named in the same call, and `ids`
-# has their ids then; where Git does not answer with just one id for each, `ids` stays empty. `named_commits` has the revisions, each
-# as a word of a shell. `repository` is the folder by which an object names the repository: where Git tells of none, that of
-# the question.
+# has their ids then; where Git does not answer with just one id for each, `ids` stays empty. `named_commits` has the
+# revisions, each as a word of a shell. `repository` is the folder by which an object names the repository: where Git tells of
+# none, that of the question.
 look_at_repository() {
     ids='' words='' named_commits=''
     [ -z "$json" ] || repository=$(pwd -P)
