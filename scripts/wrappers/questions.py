@@ -350,7 +350,7 @@ def check_reload(results, clone, repository, shell):
         ([], [refused, "ok commits 2", refused], [still % refused, *wrong] * 2),
         (["--unchecked"], [refused, refused, fault], ["the answer is '%s'" % refused, *wrong, "the answer is '%s'" % fault, *wrong[1:]]),
         ([], ["refused verify 10"], [still % "refused verify 10", *by_itself, *wrong[1:]]),
-        ([], ["yes", "no", "refused question"], []),
+        ([], ["yes", "no", "refused question", "refused walk", "refused read 2"], []),
         ([], ["gone", refused, refused], [still % refused, *none]),
     ):
         answer = ask(clone, ["ask", *words], plain, shell, input="".join(line + "\n" for line in lines).encode())
