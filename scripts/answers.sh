@@ -199,7 +199,7 @@ find_obstacle_at() {
     if [ ! -d "$1" ]; then
         name_obstacle "$1"
     elif is_there "$chain"; then
-        name_obstacle "$chain" || name_layer_obstacle "$chain"
+        name_obstacle "$chain" || name_layer_obstacle
     elif ! is_there "$1/commit-graph"; then
         cause="there is neither '$1/commit-graph' nor a chain file '$chain'" reason=''
     elif ! name_obstacle "$1/commit-graph"; then
@@ -222,13 +222,30 @@ name_obstacle() {
     [ -n "$reason" ] && cause="the file '$1'${2:+, which $2 names,} $reason"
 }
 
-# The same of the first layer beside a chain file that cannot be read.
+# The same of the first layer beside the chain file `chain` that cannot be read.
 name_layer_obstacle() {
-    number=1 layers=$(lines_of "$1" | wc -l)
-    while [ $number -le "$layers" ]; do
-        layer=${1%/*}/graph-$(lines_of "$1" | sed -n "${number}p").graph
-        ! name_obstacle "$layer" "line $number of '$1'" || return 0
+    number=$(lines_of "$chain" | first_unread layer_beside)
+    [ -n "$number" ] || return 0
+    layer=$(lines_of "$chain" | sed -n "${number}p")
+    name_obstacle "$(layer_beside "$layer")" "line $number of '$chain'"
+}
+
+# The path of the layer that a line of this chain file names.
+layer_beside() {
+    printf '%s\n' "${chain%/*}/graph-$1.graph"
+}
+
+# Whether a file can be read.
+is_open() {
+    [ -f "$1" ] && [ -r "$1" ]
+}
+
+# The number of the first line on standard input, from 1 on, whose layer cannot be read: first_unread COMMAND, which gives its path.
+first_unread() {
+    number=0
+    while IFS= read -r layer; do
         number=$((number + 1))
+        is_open "$("$1" "$layer")" || { echo $number && return; }
     done
 }
 

@@ -43,12 +43,10 @@ find_obstacle() {
     chain) file=$(chain_file) ;;
     esac
     ! name_obstacle "$file" && [ "$kind" = chain ] || return 0
-    number=1 layers=$(chain_lines | wc -l)
-    while [ $number -le "$layers" ]; do
-        file=$(layer_file $((number - 1)))
-        ! name_obstacle "$file" "line $number of '$(chain_file)'" || return 0
-        number=$((number + 1))
-    done
+    number=$(chain_lines | first_unread layer_path)
+    [ -n "$number" ] || return 0
+    file=$(layer_file $((number - 1)))
+    name_obstacle "$file" "line $number of '$(chain_file)'" || return 0
 }
 
 # The first folder in which a commit-graph may be, and which may not be entered. The answer is false where there is none.

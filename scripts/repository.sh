@@ -304,13 +304,14 @@ tells_filters() {
     none) return 0 ;;
     file) tells_chunks "$folder/commit-graph" && return ;;
     esac
-    [ "$kind" = chain ] || return
-    number=0 layers=$(chain_lines | wc -l)
-    [ "$layers" -gt 0 ] || return
-    while [ $number -lt "$layers" ]; do
-        tells_chunks "$(layer_file $number)" || return
-        number=$((number + 1))
-    done
+    [ "$kind" = chain ] && chain_lines | {
+        tells=1
+        while IFS= read -r layer; do
+            tells_chunks "$(layer_path "$layer")" || exit
+            tells=0
+        done
+        exit $tells
+    }
 }
 
 # Whether the table of chunks of a file is whole: so many ids that Git knows as the header says, and zeros at its end.
