@@ -18,10 +18,11 @@ is_own() {
 
 # Sets `foreign` to the file of the commit-graph that is not this repository's own, if there is one, and `links`.
 look_for_foreign() {
-    foreign='' links=''
+    foreign=''
     look_for_links
     if ! is_own "$home/info"; then
         foreign=${file:-$(graph_file)}
+        [ -z "$links" ] || foreign=$(readlink -f "$foreign" || printf '%s\n' "$foreign")
     elif [ -n "$links" ]; then
         foreign=$stray
     elif [ "$kind" = chain ] && [ -n "$file" ] && ! is_own "$file"; then
@@ -29,16 +30,27 @@ look_for_foreign() {
     fi
 }
 
-# Sets `links` to those links of this repository by which Git would write elsewhere, and `stray` to where the first one leads.
+# Sets `links` to those links of this repository by which Git would write elsewhere, `astray` to the last of them, and `stray` to
+# where that leads. What stands behind a link to a folder is not looked at.
 look_for_links() {
-    for linked in "$own/info/commit-graphs/commit-graph-chain" "$own/info/commit-graphs" "$own/info/commit-graph"; do
+    links=''
+    for linked in "$own/info/commit-graphs/commit-graph-chain" "$own/info/commit-graphs" "$own/info/commit-graph" "$own/info"; do
         [ -L "$linked" ] && ! is_own "$linked" || continue
+        astray=$linked
         stray=$(readlink -f "$linked") || stray=$(readlink "$linked")
         case $linked in
-        */commit-graphs) links=$(quoted "$linked") ;;
+        */commit-graphs | */info) links=$(quoted "$linked") ;;
         *) links="$links${links:+ }$(quoted "$linked")" ;;
         esac
     done
+}
+
+# The commands that remove these links. A file `alternates` behind one, by which this repository borrows objects, stays.
+unlinks() {
+    [ -n "$links" ] || return 0
+    printf '    rm -f %s\n' "$links"
+    [ "$links" != "$(quoted "$own/info")" ] || [ ! -f "$own/info/alternates" ] ||
+        printf '    mkdir %s && cp %s %s\n' "$links" "$(quoted "$stray/alternates")" "$links"
 }
 
 # The path of the file that counts as the commit-graph, or of the chain file.
@@ -96,7 +108,7 @@ writes() {
 # The commands that give this repository a commit-graph of its own, with some words after `git`: `git cgraph write` goes by the
 # commits alone, and then Git adds filters, and commits to which only a HEAD leads.
 writes_own() {
-    [ -z "$links" ] || printf '    rm -f %s\n' "$links"
+    unlinks
     with_words=$(git_with "$1")
     printf '    %s cgraph write' "$with_words"
     [ -z "$filtered" ] && ! has_heads || { printf '\n' && writes '' "$with_words"; }
@@ -233,7 +245,7 @@ advise_own() {
     fi
     case $1 in
     'mend it') cure=$(writes_own '') ;;
-    *) cure=${links:+"    rm -f $links$newline"}$(writes '') ;;
+    *) cure=$(unlinks && writes '') ;;
     esac
 }
 

@@ -3,7 +3,7 @@
 
 newline='
 '
-passes=pass_on rewrite='' holds='' beside='' where='' file='' advice='' cure='' note='' commit='' warnings=''
+passes=pass_on rewrite='' holds='' beside='' cause='' where='' file='' advice='' cure='' note='' commit='' warnings='' opened=''
 
 # Says one line on standard error.
 say() {
@@ -102,32 +102,151 @@ take_apart() {
 report() {
     printf %s "$said" >&2
     if [ "$status,$beside" != 0, ]; then
-        look_at_file "$2"
+        [ "$name" = 'git cgraph' ] || look_at_graph "$@"
         explain '' "$@" >&2
     fi
 }
 
-# Sets `where` to the file of which a refusal of a program by itself speaks, at the path that was given, if that is known. Where the
-# file of an info folder was refused, a program speaks of the chain alone, which is not there: sets `where` and `advice` to that.
-look_at_file() {
-    case $name,$line in
-    'git cgraph',*) return 0 ;;
-    *,'refused open 2') ;;
-    *,'refused open '[46]' '*)
-        file=$(chain_file_at "$1")
-        [ -z "$file" ] || where="the chain file is '$file'"
+# The path of the file on standard input, or nothing where that is no file.
+input_path() {
+    path=$(readlink /proc/self/fd/0) && [ -f "$path" ] && printf '%s\n' "$path"
+}
+
+# Whether something has a path, be it a link to nothing.
+is_there() {
+    [ -e "$1" ] || [ -L "$1" ]
+}
+
+# Why a file cannot be read, or nothing where it can.
+obstacle() {
+    if [ ! -e "$1" ] && [ -L "$1" ]; then
+        echo 'is a link to what is not there'
+    elif [ ! -e "$1" ]; then
+        echo 'is missing'
+    elif [ -d "$1" ]; then
+        echo 'is a folder, not a file'
+    elif [ ! -f "$1" ]; then
+        echo 'is not a file'
+    elif [ ! -r "$1" ]; then
+        echo 'may not be read (permission denied)'
+    fi
+}
+
+# The lines of a chain file as the programs read them, the last one with an end too: a CR before an end is left out.
+lines_of() {
+    { LC_ALL=C sed "s/$(printf '\r')\$//" "$1" 2>/dev/null && echo; } | sed '${/^$/d;}'
+}
+
+# Sets what is known of a refusal of a program by itself: `cause`, `where` and `advice`; and `opened`, the words for the files to
+# be removed where the graph is written anew. The words are those of `report`.
+look_at_graph() {
+    asked_path=$2
+    case $line in
+    'unknown '*)
+        shift 2
+        cause=$(lacked "${line#unknown }" "$@")
         return
         ;;
-    *,'refused open 5 layer '* | *,'refused verify '* | *,'refused dates '* | *,'refused filters '*)
-        name_layer_at "$1"
-        return
-        ;;
+    'refused '*) [ -n "$asked_path" ] || return 0 ;;
     *) return 0 ;;
     esac
-    if [ -n "$1" ] && [ -f "$1/commit-graph" ] && [ -r "$1/commit-graph" ] && [ ! -e "$1/commit-graphs/commit-graph-chain" ]; then
-        where="the file '$1/commit-graph' was refused, and there is no chain beside it"
+    name_opened "$asked_path"
+    case $line in
+    'refused open 1') cause="no file or folder is at '$asked_path'" ;;
+    'refused open 2') find_obstacle_at "$asked_path" ;;
+    'refused open '[46]' '*)
+        file=$(chain_file_at "$asked_path")
+        [ -z "$file" ] || where="the chain file is '$file'"
+        ;;
+    'refused file '*) [ ! -f "$asked_path" ] || where="the file is '$asked_path'" ;;
+    'refused open 5 layer '* | 'refused verify '* | 'refused dates '* | 'refused filters '*) name_layer_at "$asked_path" ;;
+    esac
+}
+
+# The sentence that an id is not in the graph: lacked NUMBER ID..
+lacked() {
+    lacks=$1
+    shift "$lacks"
+    if [ "$lacks" -eq 1 ]; then
+        echo "$1 is not in the graph"
+    else
+        echo "$1 is not in the graph; the ids given before it are"
+    fi
+}
+
+# Sets `opened` to the files of the graph at a path: a file, a folder with a chain, or an info folder.
+name_opened() {
+    if [ -f "$1" ]; then
+        opened="'$1'"
+    elif is_there "$1/commit-graph-chain"; then
+        opened="'$1/commit-graph-chain' and the layers beside it"
+    elif ! is_there "$1/commit-graphs"; then
+        ! is_there "$1/commit-graph" || opened="'$1/commit-graph'"
+    elif ! is_there "$1/commit-graph"; then
+        opened="the folder '$1/commit-graphs'"
+    elif opens "$1/commit-graph"; then
+        opened="'$1/commit-graph'"
+    else
+        opened="'$1/commit-graph' and the folder '$1/commit-graphs'"
+    fi
+}
+
+# Sets `cause` to what is wrong with the first file that cannot be read of the graph at a path, if there is one, and `advice` to
+# what to do about that. Where the file of an info folder was refused, a program speaks of the chain alone, which is not there.
+find_obstacle_at() {
+    chain=$1/commit-graph-chain
+    is_there "$chain" || chain=$1/commit-graphs/commit-graph-chain
+    if [ ! -d "$1" ]; then
+        name_obstacle "$1"
+    elif is_there "$chain"; then
+        name_obstacle "$chain" || name_layer_obstacle
+    elif ! is_there "$1/commit-graph"; then
+        cause="there is neither '$1/commit-graph' nor a chain file '$chain'" reason=''
+    elif ! name_obstacle "$1/commit-graph"; then
+        cause="the file '$1/commit-graph' was refused, and there is no chain beside it"
         advice='give the path of that file, to see why it was refused'
     fi
+    case $reason in
+    '') ;;
+    'may not be read'*) advice='see to it that whoever runs this may read the file, and ask again' ;;
+    'is missing')
+        advice="see whether another object folder has it: '$name' looks into no other, and 'git cgraph' does. Else write it anew"
+        ;;
+    *) advice='write it anew' ;;
+    esac
+}
+
+# Sets `cause` to what is wrong with a file, and `reason` to the words for that. The answer is false where it can be read.
+name_obstacle() {
+    reason=$(obstacle "$1")
+    [ -n "$reason" ] && cause="the file '$1'${2:+, which $2 names,} $reason"
+}
+
+# The same of the first layer beside the chain file `chain` that cannot be read.
+name_layer_obstacle() {
+    number=$(lines_of "$chain" | first_unread layer_beside)
+    [ -n "$number" ] || return 0
+    layer=$(lines_of "$chain" | sed -n "${number}p")
+    name_obstacle "$(layer_beside "$layer")" "line $number of '$chain'"
+}
+
+# The path of the layer that a line of this chain file names.
+layer_beside() {
+    printf '%s\n' "${chain%/*}/graph-$1.graph"
+}
+
+# Whether a file can be read.
+is_open() {
+    [ -f "$1" ] && [ -r "$1" ]
+}
+
+# The number of the first line on standard input, from 1 on, whose layer cannot be read: first_unread COMMAND, which gives its path.
+first_unread() {
+    number=0
+    while IFS= read -r layer; do
+        number=$((number + 1))
+        is_open "$("$1" "$layer")" || { echo $number && return; }
+    done
 }
 
 # The chain file of the graph at a path, or nothing where none is there.
@@ -171,16 +290,28 @@ layer_of_position() {
 }
 
 # Says what `line` means and what to do, by the tables of docs/REFUSALS.md: explain FORM COMMAND PATH [ID..]. `beside` is the
-# line of another row, which has to be said too, or empty. What is known of a repository stands in `where`, a sentence on
-# the file of which the line speaks, `advice`, what to do in place of what the table has, `cure`, the commands by
-# which a commit-graph is written anew, and `note`, what these may lose; each is empty where nothing is known. In the form
-# `json` it writes the fields of an object, with the path `file`, if `where` speaks of it, and with `warnings`.
+# line of another row, which has to be said too, or empty. What is known besides stands in `cause`, what happened, in place of
+# what the table has; `where`, a sentence on the file of which the line speaks; `advice`, what to do in place of what the table
+# has; `opened`, the files to be removed where a graph is written anew; `cure`, the commands by which that is done; and `note`,
+# what these may lose. Each is empty where nothing is known. In the form `json` it writes the fields of an object, with the path
+# `file`, if `cause` or `where` speaks of it, and with `warnings`.
 explain() {
-    form=$1 command=$2 path=$3
+    form=$1 command=$2 path=$3 names_file=$cause$where
     shift 3
     NAME=$name FORM=$form LINE=$line COMMAND=$command IDS=$* COMMIT=${commit:-$(commit_at "$path")} BESIDE=$beside \
-        WHERE=$where FILE=${where:+$file} ADVICE=$advice CURE=$cure NOTE=$note WARNINGS=$warnings LC_ALL=C \
-        awk -f "$top/scripts/json.awk" -f "$top/scripts/explain.awk" "$top/docs/REFUSALS.md"
+        CAUSE=$cause WHERE=$where FILE=${names_file:+$file} ADVICE=$advice OPENED=$opened CURE=$cure NOTE=$note \
+        WARNINGS=$warnings SIGNAL=$(signal_named) LC_ALL=C awk -f "$top/scripts/json.awk" -f "$top/scripts/explain.awk" "$top/docs/REFUSALS.md"
+}
+
+# The number and the name of the signal that ended a program.
+signal_named() {
+    case $line in
+    'ended by signal '*)
+        number=${line##* }
+        named=$(kill -l "$number" 2>/dev/null)
+        printf '%s' "$number${named:+ (SIG${named#SIG})}"
+        ;;
+    esac
 }
 
 # The id of the commit at the position that a refusal names, where the layers can be listed.

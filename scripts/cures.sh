@@ -21,44 +21,32 @@ refused_by_git() {
     line='refused git 1' status=1
 }
 
-# Why a file cannot be read, or nothing where it can.
-obstacle() {
-    if [ ! -e "$1" ] && [ -L "$1" ]; then
-        echo 'is a link to what is not there'
-    elif [ ! -e "$1" ]; then
-        echo 'is missing'
-    elif [ -d "$1" ]; then
-        echo 'is a folder, not a file'
-    elif [ ! -f "$1" ]; then
-        echo 'is not a file'
-    elif [ ! -r "$1" ]; then
-        echo 'may not be read (permission denied)'
-    fi
+# Sets `cause` to which hashes the ids of the commit-graph and of the repository have.
+name_hashes() {
+    cause="the ids of the commit-graph are of $(name_of_hash "$(kind_of_hash "$(layer_file 0)")"), and those of the repository of $(name_of_hash "$format")"
 }
 
-# Sets `where` to what is wrong with the first file that cannot be read, if there is one, and `reason` to why.
+# The name of a kind of hash, as it is written in sentences.
+name_of_hash() {
+    case $1 in
+    sha1) echo SHA-1 ;;
+    *) echo SHA-256 ;;
+    esac
+}
+
+# Sets `cause` to what is wrong with the first file that cannot be read, if there is one, `file` to that file, and `reason` to why.
 find_obstacle() {
+    reason=''
     case $kind in
     none) return ;;
     file) file=$folder/commit-graph ;;
     chain) file=$(chain_file) ;;
     esac
-    reason=$(obstacle "$file")
-    if [ -n "$reason" ]; then
-        where="the file '$file' $reason"
-        return
-    fi
-    [ "$kind" = chain ] || return 0
-    number=0 layers=$(chain_lines | wc -l)
-    while [ $number -lt "$layers" ]; do
-        file=$(layer_file $number)
-        reason=$(obstacle "$file")
-        number=$((number + 1))
-        if [ -n "$reason" ]; then
-            where="the file '$file', which line $number of '$(chain_file)' names, $reason"
-            return
-        fi
-    done
+    ! name_obstacle "$file" && [ "$kind" = chain ] || return 0
+    number=$(chain_lines | first_unread layer_path)
+    [ -n "$number" ] || return 0
+    file=$(layer_file $((number - 1)))
+    name_obstacle "$file" "line $number of '$(chain_file)'" || return 0
 }
 
 # The first folder in which a commit-graph may be, and which may not be entered. The answer is false where there is none.
@@ -85,12 +73,7 @@ name_file() {
         number=${line#* position }
         number=$(layer_of_position "$place/$graph" "${number%% *}")
         ;;
-    'refused open 4 line '* | 'refused git 2 line '*)
-        file=$(chain_file)
-        where="this is line $((${line##* } + 1)) of '$file'"
-        return
-        ;;
-    'refused open 6 '*)
+    'refused open '[46]' '* | 'refused git 2 '*)
         [ "$kind" = file ] || { file=$(chain_file) && where="the chain file is '$file'"; }
         return
         ;;
@@ -158,7 +141,7 @@ advise() {
 # Sets what `report` says of a refusal beside the text of its row, and `is_absent` where it says nothing of what is written
 # there.
 diagnose() {
-    file=''
+    file='' cause=''
     if [ "$question" = write ]; then
         diagnose_write
         return
@@ -169,6 +152,11 @@ diagnose() {
     'refused open 1' | 'refused open 2' | 'refused open 3') diagnose_opening ;;
     'refused objects '*) diagnose_object ;;
     'the commits of this repository could not be listed') diagnose_listing ;;
+    'refused git 1')
+        name_hashes
+        name_file
+        advise_anew
+        ;;
     'refused '*)
         name_file
         advise_anew
@@ -181,7 +169,7 @@ diagnose() {
 # The same where a file was not opened or not read.
 diagnose_opening() {
     if [ "$kind" = none ] && file=$(closed_folder); then
-        is_absent=yes where="the folder '$file' may not be read (permission denied)"
+        is_absent=yes cause="the folder '$file' may not be read (permission denied)"
         advice="see to it that whoever runs this may enter the folder, and ask again" cure="    ls -ld $(quoted "$file")"
         return
     elif [ "$kind" = none ]; then
@@ -197,13 +185,14 @@ diagnose_opening() {
         return
         ;;
     esac
+    [ "$line,$reason" != 'refused open 3,' ] || return 0
     advice="see to it that whoever runs this may read the file, and ask again"
     cure="    ls -l $(quoted "$file")"
 }
 
 # The same where there is no commit-graph.
 diagnose_absent() {
-    is_absent=yes line='there is no commit-graph' file=''
+    is_absent=yes has_none=yes line='there is no commit-graph' file=''
     said="$name: $line$newline"
     look_for_foreign
     look_for_filters
@@ -219,6 +208,7 @@ diagnose_absent() {
 # The same of a commit that the commit-graph lacks. Git writes one that has it where something leads to the commit.
 diagnose_unknown() {
     asked_id=$(printf '%s\n' $ids | sed -n "${line#unknown }p")
+    name_unknown "${line#unknown }"
     look_for_foreign
     look_for_filters
     if ! is_led_to --all --reflog; then
@@ -235,6 +225,16 @@ diagnose_unknown() {
     fi
 }
 
+# Sets `cause` to a sentence on the commit of this number among those that were named, with the word by which the user did.
+name_unknown() {
+    eval "set -- $1 $named_commits"
+    unknown=$1
+    shift "$unknown"
+    cause="'$1' ($asked_id) is not in the commit-graph"
+    [ "$1" != "$asked_id" ] || cause="the commit $1 is not in the commit-graph"
+    [ "$unknown" -eq 1 ] || cause="$cause; the commits named before it are"
+}
+
 # Whether some words of `git rev-list`, as --all, lead to the commit that was asked for, or whether Git cannot tell.
 is_led_to() {
     [ -z "$(plain_git rev-list -n 1 "$asked_id" --not "$@" 2>/dev/null)" ]
@@ -243,4 +243,28 @@ is_led_to() {
 # The option by which Git writes a commit-graph of the form of the one that is there.
 splits() {
     [ "$kind" != chain ] || echo ' --split'
+}
+
+# Says what a refusal among the answers to questions means. Where the file of the commit-graph is refused, the program speaks of the
+# chain, which is not there: what is wrong with the file is asked of it by itself. Files of a moment have a folder of their own.
+tell_refusal() {
+    scratch='' line=$1 status=1 said=''
+    if [ -n "$unchecked" ]; then
+        say "the answer is '$line'"
+    else
+        say "the answer is '$line': the commit-graph that was read before still counts"
+    fi
+    find_graph
+    if [ "$kind" = file ] && ! is_there "$(chain_file)"; then
+        place=$home graph=info/commit-graph
+        line=$(in_place "$program" ask "$graph" </dev/null 2>/dev/null | head -n 1)
+        [ "$line" = "$1" ] || say "the file by itself gets '$line'"
+    fi
+    case $line in
+    'refused '*)
+        diagnose
+        report ask "$place/$graph"
+        ;;
+    *) say "it is another one now: ask 'reload' again" ;;
+    esac
 }

@@ -2,16 +2,17 @@
 # reads, after scripts/json.awk. The surroundings give LINE, COMMAND, the word by which the program was asked, NAME, the
 # name to speak by, and, each of them empty where it is not known, IDS, the ids that were asked about, COMMIT, the id of the
 # commit at the position that the line names, BESIDE, the line of another row, which is said too: what to do is then as
-# that row has it; WHERE, a sentence on the file of which the line speaks; ADVICE, what to do in the place of what the
-# row has; CURE, the commands by which the commit-graph is written anew, a line for each; and NOTE, a sentence on what these
-# may lose. Where FORM is `json`, the same is written as fields of a JSON object, with FILE, the path of the file, and
-# WARNINGS, what else was said, as texts of JSON with commas between them.
+# that row has it; CAUSE, what happened in the place of what the row has; WHERE, a sentence on the file of which the line
+# speaks; ADVICE, what to do in the place of what the row has; OPENED, the files to be removed where a graph is written anew;
+# CURE, the commands by which that is done, a line for each; NOTE, a sentence on what these may lose; and SIGNAL, the number
+# and the name of a signal. Where FORM is `json`, the same is written as fields of a JSON object, with FILE, the path of the
+# file, and WARNINGS, what else was said, as texts of JSON with commas between them.
 #
 # A row is that of the line if a text in backquotes in its first cell has the line's words, where a capital
 # letter stands for any number, and the line may have more words at its end. Of several such rows the one with
 # the most words is taken, of those one for the command, which begins with “from `WORD`” or so with several words,
-# and of those the one with the fewest letters. A `"` is what the row above says to do, and what it means to write a
-# commit-graph anew stands in a row too.
+# and of those the one with the fewest letters. In the other cells `L+1` is one more than L. A `"` is what the row above
+# says to do, and what it means to write a commit-graph anew stands in rows too.
 
 BEGIN {
     line = ENVIRON["LINE"]
@@ -32,21 +33,26 @@ END {
         sub(/; [^;]* is explained under .*/, "", happened[line])
         happened[line] = happened[line] ": " happened[detail]
     }
+    if (ENVIRON["SIGNAL"] != "") value["S"] = ENVIRON["SIGNAL"]
     if (ENVIRON["FORM"] == "json") write_fields()
     else if (best[line] || beside != "") say_all()
 }
 
 function say_all() {
     if (ENVIRON["COMMIT"] != "") say("the commit " (value["P"] == "" ? "" : "at position " value["P"] " ") "is " ENVIRON["COMMIT"])
-    if (line ~ /^unknown /) say("id " value["N"] " is " nth_id(value["N"]))
     if (line ~ /^refused id / && no_id() != "") say("'" no_id() "' is not an id")
-    if (best[line]) say(with_values(happened[line]))
+    if (best[line]) say(what_happened())
     if (beside != "") {
         say(beside)
         say(happened[beside])
     }
     if (ENVIRON["WHERE"] != "") say(ENVIRON["WHERE"])
     tell_cure(to_be_done())
+}
+
+# What happened, by the row of the line, where no more than that is known.
+function what_happened() {
+    return ENVIRON["CAUSE"] != "" ? ENVIRON["CAUSE"] : with_values(happened[line])
 }
 
 # What to do, by the row of the line that stands beside, if there is one.
@@ -65,9 +71,16 @@ function noted() {
     return ENVIRON["NOTE"] == "" ? "" : ". " ENVIRON["NOTE"]
 }
 
+# How a commit-graph is written anew: one whose files are known, or any other.
+function anew_in_words(    text) {
+    if (ENVIRON["OPENED"] == "") return happened["write it anew"]
+    text = happened["write FILES anew"]
+    return substr(text, 1, index(text, "FILES") - 1) ENVIRON["OPENED"] substr(text, index(text, "FILES") + length("FILES"))
+}
+
 # Says what to do, and how a commit-graph is written anew where that is a part of it.
 function tell_cure(text,    anew) {
-    anew = happened["write it anew"]
+    anew = anew_in_words()
     if (has_commands(text)) {
         say("what to do: " text noted() ":")
         printf "%s\n", ENVIRON["CURE"]
@@ -84,12 +97,12 @@ function write_fields(    warnings, text) {
     if (beside != "") warnings = warnings (warnings == "" ? "" : ",") text_of(beside ": " happened[beside])
     if (warnings != "") printf ",\"warnings\":[%s]", warnings
     write_field("error", line)
-    if (best[line]) write_field("reason", with_values(happened[line]))
+    if (best[line]) write_field("reason", what_happened())
     write_field("where", ENVIRON["WHERE"])
     write_field("file", ENVIRON["FILE"])
     write_field("commit", line ~ /^unknown / ? nth_id(value["N"]) : ENVIRON["COMMIT"])
     text = to_be_done()
-    if (text == "write it anew" && ENVIRON["CURE"] == "") text = happened[text]
+    if (text == "write it anew" && ENVIRON["CURE"] == "") text = anew_in_words()
     write_field("advice", has_commands(text) ? text noted() : text)
     if (has_commands(text) && is_readable(ENVIRON["CURE"])) printf ",\"cure\":%s", commands_of(ENVIRON["CURE"])
 }
@@ -111,6 +124,7 @@ function look(text) {
     if (detail != "") keep(text, detail)
     if (beside != "") keep(text, beside)
     keep(text, "write it anew")
+    keep(text, "write FILES anew")
 }
 
 function keep(text, wanted,    score) {
@@ -152,14 +166,15 @@ function take_values(text,    words, parts, count, number) {
     for (number = 1; number <= count; number++) if (words[number] ~ /^[A-Z]$/) value[words[number]] = parts[number]
 }
 
-# A sentence with numbers in the place of letters.
-function with_values(text,    letter, start, whole) {
+# A sentence with numbers in the place of letters, and one more in the place of a letter with `+1` behind it.
+function with_values(text,    letter, start, whole, more) {
     for (letter in value) {
         whole = ""
         while (match(text, "(^|[^A-Za-z0-9])" letter "($|[^A-Za-z0-9])")) {
             start = RSTART + (substr(text, RSTART, 1) != letter)
-            whole = whole substr(text, 1, start - 1) value[letter]
-            text = substr(text, start + 1)
+            more = substr(text, start + 1, 2) == "+1"
+            whole = whole substr(text, 1, start - 1) (more ? value[letter] + 1 : value[letter])
+            text = substr(text, start + 1 + 2 * more)
         }
         text = whole text
     }

@@ -45,7 +45,7 @@ write_object() {
     (last_object) 2>/dev/null && return
     passed=$?
     [ $passed -le 128 ] || exit $passed
-    line='the answer could not be written' status=2 ending=128 beside='' commit='' where='' advice='' cure=''
+    line='the answer could not be written' status=2 ending=128 beside='' commit='' cause='' where='' advice='' cure=''
     said="$name: $line$newline"
 }
 
@@ -63,9 +63,11 @@ object_head() {
     printf '{'
     [ -z "$question" ] || printf '"command":"%s",' "$question"
     printf '"status":%d' "$ending"
-    case ${kind-} in
-    file) printf ',"commit_graph":%s' "$(json_text "$folder/commit-graph")" ;;
-    chain) printf ',"commit_graph":%s' "$(json_text "$(chain_file)")" ;;
+    [ -z "$repository" ] || printf ',"repository":%s' "$(json_text "$repository")"
+    case $has_none,${kind-} in
+    yes,*) printf ',"commit_graph":null' ;;
+    *,file) printf ',"commit_graph":%s' "$(json_text "$folder/commit-graph")" ;;
+    *,chain) printf ',"commit_graph":%s' "$(json_text "$(chain_file)")" ;;
     esac
     comma=''
     for id in ${ids-}; do
@@ -77,9 +79,10 @@ object_head() {
 
 # The fields of an answer, where there is one. What `show` has to say may stand beside a refusal.
 answer_fields() {
-    case $question,$status,$answered in
-    list,0,*) printf ',"layers":%d,"commits":%d' "$number" "$listed" ;;
-    *,0,* | *,1,no | *,1,none | show,*) fields_of "$question" <"$scratch/lines" ;;
+    case $has_none,$question,$status,$answered in
+    yes,*) ;;
+    ,list,0,*) printf ',"layers":%d,"commits":%d' "$number" "$listed" ;;
+    ,*,0,* | ,*,1,no | ,*,1,none | ,show,*) [ ! -f "$scratch/lines" ] || fields_of "$question" <"$scratch/lines" ;;
     esac
 }
 

@@ -4,7 +4,8 @@
 # The locks are Git's: files with `.lock` behind the name of what is written, which only one process can make. `single_lock` and
 # `chain_lock` are those that this one holds, or empty.
 
-# Sets `single` and `chain`, where they are links to what they lead to, since Git writes there, and makes their folders.
+# Sets `single` and `chain`, where they are links to what they lead to in the repository, since Git writes there, and makes their
+# folders.
 name_files() {
     single=$target/info/commit-graph chain=$target/info/commit-graphs/commit-graph-chain
     make_shared_folder "$target/info" || return

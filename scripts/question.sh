@@ -1,7 +1,7 @@
 # How `git cgraph` takes its words, asks, and answers. It reads this file with `.`, in a process of its own, with the words as the
 # arguments, after all that defines functions.
 
-word='' closed='' verbose='' split='' keep_filters='' all_checks='' objects_too='' jobs='' progress='' alone='' unchecked=''
+word='' closed='' verbose='' split='' keep_filters='' all_checks='' objects_too='' if_exists='' jobs='' progress='' alone='' unchecked=''
 run=in_place
 while [ $# -gt 0 ]; do
     case $1 in
@@ -39,12 +39,12 @@ asked=$word
 [ "$word,$verbose$json" != merge-base, ] || asked=merge-base-ids
 holds=yes place='' graph='' ids='' passed=0
 [ -z "$quiet" ] || rewrite=silence
+look_at_repository "$@"
 [ -z "$json" ] || prepare_objects
 if [ -n "$named" ]; then
     found=$(from_root "$named") || refuse_folder "$named"
     named=$found
 fi
-look_at_repository "$@"
 [ -n "$ids" ] || read_revisions "$@"
 look_for_folders
 find_program "$tool" || leave "$line"
@@ -54,16 +54,13 @@ if shows_progress; then
     set_delay
     run=watched
 fi
-[ "$word" != write ] && refused_by_git || case $word,$objects_too,$all_checks in
-write,*) write_graph ;;
-list,*) list_graph ;;
-show,*) show_graph ;;
-verify,yes,*) verify_objects ;;
-verify,,yes) ask_all ;;
-ask,*) ask_questions ;;
-*) ask_program ;;
+case $word in
+write) write_graph ;;
+show) show_graph ;;
+*) refused_by_git || answer_question ;;
 esac
 [ "$passed" -le 128 ] || exit "$passed"
+allow_none
 write_held
 [ -n "$unchecked" ] || case $word,$line in
 is-ancestor,no | walk,none | merge-base,none | merge-base,base* | merge-base,[0-9a-f]* | ask,ok*) look_for_repeated ;;

@@ -2,11 +2,14 @@
 
 import os
 import re
+import signal
 from typing import List, NamedTuple, Optional, Sequence
 
 TOP = os.path.dirname(os.path.dirname(os.path.abspath(__file__)))
-ANEW = "write it anew"
+ANEW, FILES_ANEW = "write it anew", "write FILES anew"
 LETTER = re.compile(r"(?<![A-Za-z0-9])[A-Z](?![A-Za-z0-9])")
+VALUE = re.compile(LETTER.pattern + r"(\+1)?")
+ENDED = re.compile(r"ended by signal (\d+)")
 FROM = re.compile(r"from (`[^:]*): ")
 
 
@@ -21,12 +24,14 @@ class Row(NamedTuple):
 
 
 class Known(NamedTuple):
-    """What is known of a repository whose commit-graph was refused, as scripts/answers.sh has it."""
+    """What is known of a commit-graph that was refused, as scripts/answers.sh has it."""
 
     where: str = ""
     advice: str = ""
     cure: Sequence[str] = ()
     note: str = ""
+    cause: str = ""
+    opened: str = ""
 
 
 def read_rows() -> List[Row]:
@@ -70,8 +75,26 @@ def detail_of(line):
 
 
 def filled(sentence, numbers):
-    """A sentence with numbers in the place of its letters, as it is said."""
-    return LETTER.sub(lambda match: numbers.get(match.group(), match.group()), sentence).replace("`", "'")
+    """A sentence with numbers in the place of its letters, and one more where `+1` follows, as it is said."""
+
+    def value(match):
+        letter, more = match.group()[0], match.group(1)
+        return match.group() if letter not in numbers else str(int(numbers[letter]) + 1) if more else numbers[letter]
+
+    return VALUE.sub(value, sentence).replace("`", "'")
+
+
+def named_signal(line, numbers):
+    """The numbers of a line, with the name of the signal of which it tells."""
+    ended = ENDED.fullmatch(line)
+    return {**numbers, "S": "%s (%s)" % (ended.group(1), signal.Signals(int(ended.group(1))).name)} if ended else numbers
+
+
+def in_words(rows, known):
+    """How a commit-graph is written anew: one whose files are known, or any other."""
+    if not known.opened:
+        return filled(row_of(rows, ANEW).happened, {})
+    return filled(row_of(rows, FILES_ANEW).happened, {}).replace("FILES", known.opened)
 
 
 def sentences(rows, line, command=None, known=None, beside=None):
@@ -84,17 +107,17 @@ def sentences(rows, line, command=None, known=None, beside=None):
     said, numbers, detail = [], {}, detail_of(line)
     known = known or Known()
     if row:
-        happened, numbers = row.happened, values(row.text, line)
+        happened, numbers = row.happened, named_signal(line, values(row.text, line))
         if detail:
             happened = "%s: %s" % (happened.split("; ")[0], row_of(rows, detail).happened)
-        said = [filled(happened, numbers)]
+        said = [known.cause or filled(happened, numbers)]
     if beside:
         row = row_of(rows, beside)
         said += [beside, filled(row.happened, {})]
     said += [known.where] if known.where else []
     if not row:
         return said
-    anew = filled(row_of(rows, ANEW).happened, {})
+    anew = in_words(rows, known)
     to_do = known.advice or filled(row.to_do, numbers)
     if known.cure and (known.advice or ANEW in to_do):
         noted = to_do + (". " + known.note if known.note else "")

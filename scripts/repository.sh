@@ -20,13 +20,18 @@ from_root() {
 
 # Sets what one call of Git says of the repository: `objects`, `format`, the kind of its ids, `is_shallow`, and `common`, the
 # folder that its worktrees share. A path may have line ends of its own. Revisions are named in the same call, and `ids`
-# has their ids then; where Git does not answer with just one id for each, `ids` stays empty.
+# has their ids then; where Git does not answer with just one id for each, `ids` stays empty. `named_commits` has the
+# revisions, each as a word of a shell. `repository` is the folder by which an object names the repository: where Git tells of
+# none, that of the question.
 look_at_repository() {
-    ids='' words=''
+    ids='' words='' named_commits=''
+    [ -z "$json" ] || repository=$(pwd -P)
     for revision in "$@"; do
+        by_user=$(quoted "$revision")
+        named_commits="$named_commits $by_user"
         case $revision in
-        :/*) words="$words $(quoted "$revision")" ;;
-        *) words="$words $(quoted "$revision^{commit}")" ;;
+        :/*) words="$words $by_user" ;;
+        *) words="$words $by_user'^{commit}'" ;;
         esac
     done
     if [ $# -eq 0 ] || ! told=$(eval "look_up_by_git $words" 2>/dev/null) || ! take_ids $#; then
@@ -38,6 +43,7 @@ look_at_repository() {
     rest=${rest#*"$newline"}
     is_shallow=${rest%%"$newline"*}
     common=$(from_root "${rest#*"$newline"}") || refuse_folder "${rest#*"$newline"}"
+    repository=$common
     case $info in
     info) objects=$(pwd -P) ;;
     *) objects=$(from_root "${info%/info}") || refuse_folder "${info%/info}" ;;
@@ -79,10 +85,6 @@ look_for_folders() {
     folders=$folders$(git count-objects -v 2>/dev/null | LC_ALL=C awk -f "$top/scripts/alternates.awk")
 }
 
-is_there() {
-    [ -e "$1" ] || [ -L "$1" ]
-}
-
 # Sets `home`, `folder` and `kind` to the first object folder that has a commit-graph, and to the first of all where none
 # has one. Where an object folder was named, that one counts.
 find_graph() {
@@ -106,9 +108,9 @@ chain_file() {
     printf '%s\n' "$folder/commit-graphs/commit-graph-chain"
 }
 
-# The lines of the chain file as the programs read them, the last one with an end too: a CR before an end is left out.
+# The lines of the chain file.
 chain_lines() {
-    { LC_ALL=C sed "s/$(printf '\r')\$//" "$(chain_file)" 2>/dev/null && echo; } | sed '${/^$/d;}'
+    lines_of "$(chain_file)"
 }
 
 # The path of the layer that a line of the chain names, in the first object folder that has it.
@@ -302,13 +304,14 @@ tells_filters() {
     none) return 0 ;;
     file) tells_chunks "$folder/commit-graph" && return ;;
     esac
-    [ "$kind" = chain ] || return
-    number=0 layers=$(chain_lines | wc -l)
-    [ "$layers" -gt 0 ] || return
-    while [ $number -lt "$layers" ]; do
-        tells_chunks "$(layer_file $number)" || return
-        number=$((number + 1))
-    done
+    [ "$kind" = chain ] && chain_lines | {
+        tells=1
+        while IFS= read -r layer; do
+            tells_chunks "$(layer_path "$layer")" || exit
+            tells=0
+        done
+        exit $tells
+    }
 }
 
 # Whether the table of chunks of a file is whole: so many ids that Git knows as the header says, and zeros at its end.

@@ -2,14 +2,16 @@
 # commit-graph covers. It reads this file with `.`, after answers.sh, repository.sh and cures.sh. This defines functions, and
 # runs nothing.
 
-# Shows the commit-graph that is there, also where it is refused: `line` is the refusal then. Where it is another one meanwhile,
-# or was for a moment, so that its ids could not be read, all is asked once more, and nothing is written until then.
+# Shows the commit-graph that is there, also where it is refused, be it by Git alone: `line` is the refusal then. Where it is
+# another one meanwhile, or was for a moment, so that its ids could not be read, all is asked once more, and nothing is written
+# until then.
 show_graph() {
     rewrite=keep
     for try in 1 2 3; do
         find_graph
         stamp=$(graph_stamp)
         ask_program
+        case $status in [01]) ! refused_by_git || held=${held%"right$newline"} ;; esac
         case $quiet,$held,$status in ,?*,[01]) ;; *) return 0 ;; esac
         shown=$(with_files 2>/dev/null) missing='' unread=''
         [ "$status" -ne 0 ] || find_coverage

@@ -13,7 +13,7 @@ write_graph() {
     graphtool=$program
     find_program historytool || leave "$line"
     historytool=$program target=${named:-$objects} status=0 line='' said='' dropped=''
-    is_taken && is_used && is_object_folder && name_files && take_locks || return 0
+    is_taken && is_used && is_object_folder && is_inside && name_files && take_locks || return 0
     make_scratch
     find_graph
     if [ -n "$split" ]; then write_layer; else write_file; fi
@@ -60,7 +60,12 @@ refuse_unused() {
     advice=$2
     tell_links
     fail 'Git uses no commit-graph here' "the reason is that $1" "$advice" \
-        "${4:+    $(git_here) $4$newline}${links:+    rm -f $links$newline}    $(git_with "$3") cgraph write${split:+ --split}"
+        "${4:+    $(git_here) $4$newline}$(unlinks && writes_by_cgraph "$3")"
+}
+
+# The command by which this one writes, with some words after `git`.
+writes_by_cgraph() {
+    printf '    %s cgraph write%s' "$(git_with "$1")" "${split:+ --split}"
 }
 
 # Whether the folder that is named is one of those in which Git looks for objects.
@@ -70,8 +75,32 @@ is_object_folder() {
     for place in "$@"; do
         [ ! "$place" -ef "$named" ] || return 0
     done
+    look_for_links
     refuse_writing "'$named' is none of the object folders of this repository" "write to this repository's own" \
-        "    $(git_there) cgraph write${split:+ --split}"
+        "$(unlinks && writes_by_cgraph '')"
+}
+
+# Whether what is written stays in the repository for which it is written. Git follows a link that leads elsewhere, where the
+# commit-graph of another repository may be.
+is_inside() {
+    if [ "$target" -ef "$own" ]; then
+        look_for_links
+        [ -z "$links" ] || refuse_writing "'$astray' leads to '$stray', which is not in this repository" \
+            "remove the link, and write a commit-graph of this repository's own" "$(unlinks && writes_by_cgraph '')"
+        return
+    fi
+    around=$(readlink -f "$target/..")
+    for linked in info info/commit-graph info/commit-graphs info/commit-graphs/commit-graph-chain; do
+        [ -L "$target/$linked" ] || continue
+        stray=$(readlink -f "$target/$linked") || stray=$(readlink "$target/$linked")
+        case $stray in
+        "$around"/*) ;;
+        *)
+            refuse_writing "'$target/$linked' leads to '$stray', which is not in its repository" \
+                "ask whoever keeps '$target' to remove this link" || return
+            ;;
+        esac
+    done
 }
 
 # Writes a commit-graph of one file.

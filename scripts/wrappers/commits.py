@@ -144,7 +144,8 @@ def check_right(results, compared, shell):
     out = VERIFIED + "dates none\nfilters none\nobjects commits %d\n" % COUNT
     results.check("%s git-cgraph verify --objects --all-checks" % " ".join(shell), exactly(answer, 0, out))
     answer = compared.ask("--json", "--all-checks", "-j2", shell=shell)
-    wanted = {"command": "verify", "status": 0, "commit_graph": os.path.join(compared.info, "commit-graph")}
+    repository = os.path.join(compared.folder, ".git")
+    wanted = {"command": "verify", "status": 0, "repository": repository, "commit_graph": os.path.join(compared.info, "commit-graph")}
     right = objects_in(answer.out) == [{**wanted, **fields_of("verify", out)}] and answer[::2] == (0, "")
     results.check("%s git-cgraph verify --objects --json" % " ".join(shell), None if right else "it is %r" % (answer,))
     results.check("%s git-cgraph verify --objects -q" % " ".join(shell), exactly(compared.ask("-q", shell=shell), 0, ""))

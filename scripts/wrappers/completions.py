@@ -36,6 +36,9 @@ ASKED = {
     "git cgraph write --sp": {"--split"},
     "git cgraph write --k": {"--keep-filters"},
     "git cgraph verify --sp": set(),
+    "git cgraph verify --if": {"--if-exists"},
+    "git cgraph list --if": {"--if-exists"},
+    "git cgraph find --if": set(),
     "git cgraph -C su": {"sub"},
     "git cgraph verify --object-dir su": {"sub"},
 }

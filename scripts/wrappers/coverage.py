@@ -7,6 +7,7 @@ import tempfile
 
 import refusals
 from wrappers.clone import Clone, exactly
+from wrappers.json_answers import objects_in
 from wrappers.questions import anew, ask, git, make_repository, said
 
 PERSON = ("-c", "user.name=A", "-c", "user.email=a@example.com")
@@ -60,7 +61,7 @@ def check_all(results):
     """The checks, in one repository."""
     with tempfile.TemporaryDirectory() as folder:
         shown = Shown(folder)
-        for check in (check_files, check_lacking, check_more, check_refused, check_unused, check_written, check_chain):
+        for check in (check_files, check_lacking, check_more, check_refused, check_other_hash, check_unused, check_written, check_chain):
             check(results, shown)
         results.check("git cgraph show, nothing is left over", shown.clone.left_over())
 
@@ -143,6 +144,31 @@ def check_refused(results, shown):
     known = refusals.Known("the file is '%s'" % path, "", cure)
     err = said(refusals.sentences(rows, "refused open 5 layer 0 file 1", "show", known))
     results.check("git cgraph show, of no layer", exactly(shown.ask(), 1, "refused open 5 layer 0 file 1\n", err))
+
+
+def check_other_hash(results, shown):
+    """A commit-graph of the other kind of hash is shown, and which hash it has and which the repository."""
+    path, line = os.path.join(shown.info, "commit-graph"), "refused git 1"
+    with open(path, "rb") as file:
+        content = file.read()
+    with open(path, "wb") as file:
+        file.write(content.replace(b"CGPH\1\1", b"CGPH\1\2", 1))
+    layer = LAYER.replace("sha1", "sha256") % (0, 0)
+    cause = "the ids of the commit-graph are of SHA-256, and those of the repository of SHA-1"
+    known = refusals.Known("the file is '%s'" % path, "", [anew(shown.info, "commit-graph")[0], NAMES_TIPS], cause=cause)
+    err = said(refusals.sentences(refusals.read_rows(), line, "show", known))
+    for verdict, status in (("right", 0), ("refused verify 1", 1)):
+        shown.put(layer + WHOLE % 1 + verdict + "\n", status)
+        out = lines_of(path, line + "\n").replace("sha1", "sha256")
+        results.check("git cgraph show, of the other hash, %s" % verdict, exactly(shown.ask(), 1, out, err))
+        results.check("git cgraph show -q, of the other hash, %s" % verdict, exactly(shown.ask("-q"), 1, "", err))
+    (last,) = objects_in(shown.ask("--json").out)
+    right = [layer["hash"] for layer in last["layers"]] == ["sha256"] and (last["error"], last["reason"]) == (line, cause)
+    results.check("git cgraph show --json, of the other hash", None if right else "it is %r" % last)
+    shown.put("refused open 5 layer 0 file 4\n", 1)
+    results.check("git cgraph show, of the other hash, and no layer", exactly(shown.ask(), 1, line + "\n", err))
+    with open(path, "wb") as file:
+        file.write(content)
 
 
 def check_unused(results, shown):

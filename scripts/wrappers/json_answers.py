@@ -11,7 +11,7 @@ import shutil
 import tempfile
 
 import refusals
-from wrappers.clone import TOP, Clone, exactly
+from wrappers.clone import TOP, Clone, exactly, run
 from wrappers.questions import ODD_NAME, SHELLS, WORDS, ask, git, make_repository
 from wrappers.sentences import examples
 from wrappers.tools import read
@@ -106,6 +106,7 @@ def check_all(results):
         check_warnings(results, clone, repository)
         check_refusals(results, clone, repository)
         check_failures(results, clone, repository)
+        check_none(results, clone, repository)
         check_bytes(results, clone, make_repository(clone, os.path.join(folder.encode(), ODD_NAME)))
         results.check("git cgraph --json, nothing is left over", clone.left_over())
 
@@ -287,8 +288,8 @@ def wanted_objects(word, plain):
 def head_of(clone, repository, word, revisions=()):
     """What an object begins with, beside the status."""
     ids = [git(clone, repository, "rev-parse", revision) for revision in revisions]
-    path = os.path.join(repository, b".git/objects/info/commit-graph").decode("utf-8", "replace")
-    return {"command": word, "commit_graph": path, **({"ids": ids} if ids else {})}
+    folder, path = (os.path.join(repository, name).decode("utf-8", "replace") for name in (b".git", b".git/objects/info/commit-graph"))
+    return {"command": word, "repository": folder, "commit_graph": path, **({"ids": ids} if ids else {})}
 
 
 def check_answers(results, clone, repository, awk):
@@ -340,7 +341,7 @@ def check_listing(results, clone, repository, shell):
     clone.put_program("graphtool", "cat\n")
     plain, answer = both(clone, repository, ["list"], shell)
     *rows, last = listed_objects(LISTED)
-    head = {"command": "list", "status": 0, "commit_graph": chain.decode()}
+    head = {**head_of(clone, repository, "list"), "status": 0, "commit_graph": chain.decode()}
     try:
         complaint = None if objects_in(answer.out) == [*rows, {**head, **last}] else "it is %r" % (answer,)
     except ValueError as error:
@@ -430,8 +431,6 @@ def told_by(fields):
         said.append(error)
     if " position " in error and "commit" in fields:
         said.append("the commit at position %s is %s" % (error.split(" position ")[1].split()[0], fields["commit"]))
-    if error.startswith("unknown "):
-        said.append("id %s is %s" % (error.split()[1], fields["commit"]))
     said += fields.get("warnings", [])
     said += [fields[name] for name in ("reason", "where") if name in fields]
     if "advice" in fields:
@@ -470,9 +469,11 @@ def check_failures(results, clone, repository):
         (last,) = objects_in(answer.out)
         said = plain.err.splitlines()[-1] == "git cgraph: " + last["error"]
         right = answer[::2] == plain[::2] and plain[:2] == (128, "") and last["status"] == 128 and said
+        right = right and last.get("repository", "") == ("" if "-C" in words else head_of(clone, repository, "")["repository"])
         results.check("git cgraph %s --json" % " ".join(words), None if right else "it is %r, plain %r" % (answer, plain))
     answer = ask(clone, ["verify", "--json"], clone.home)
-    right = objects_in(answer.out) == [{"command": "verify", "status": 128, "error": "Git tells of no repository here"}]
+    fields = {"command": "verify", "status": 128, "repository": os.path.realpath(clone.home), "error": "Git tells of no repository here"}
+    right = objects_in(answer.out) == [fields]
     results.check("git cgraph verify --json, of no repository", None if right and answer.status == 128 else "it is %r" % (answer,))
     results.check("git cgraph verify --json -q", exactly(ask(clone, ["verify", "--json", "-q"], repository), 0, ""))
     unwritten = "the answer could not be written"
@@ -488,6 +489,34 @@ def check_failures(results, clone, repository):
         (last,) = objects_in(answer.out)
         right = answer.status == last["status"] == status and last["error"] == line and "commits" not in last
         results.check("git cgraph verify --json, %s" % line, None if right else "it is %r" % (answer,))
+
+
+def check_none(results, clone, repository):
+    """Where there is no commit-graph, the repository is named, and that is right or no answer, as was asked for."""
+    path = os.path.join(repository, b".git/objects/info/commit-graph")
+    os.rename(path, path + b" aside")
+    for program in ("graphtool", "historytool"):
+        clone.put_program(program, "echo 'refused open 2'\nexit 1\n")
+    for words in (["verify"], ["verify", "--all-checks", "--objects"], ["check"], ["distinct"], ["show"], ["list"]):
+        title, wanted = "git cgraph %s, no commit-graph" % " ".join(words), {**head_of(clone, repository, words[0]), "commit_graph": None}
+        plain, answer = both(clone, repository, words)
+        (last,) = objects_in(answer.out)
+        right = plain[:2] == (128, "refused open 2\n") and answer[::2] == plain[::2] and told_by(last) == plain.err
+        right = right and {name: last.get(name, MISSING) for name in wanted} == wanted and last["status"] == 128
+        results.check(title, None if right else "it is %r, plain %r" % (answer, plain))
+        plain, answer = both(clone, repository, [*words, "--if-exists"])
+        right = plain == (0, "", "") and answer[::2] == (0, "") and objects_in(answer.out) == [{**wanted, "status": 0}]
+        results.check(title + ", --if-exists", None if right else "it is %r, plain %r" % (answer, plain))
+    words = [os.path.join(clone.folder, "git-cgraph"), "show", "--json"]
+    answer = run(words, clone.surroundings(TMPDIR="/nonexistent"), cwd=repository)
+    (last,) = objects_in(answer.out)
+    right = answer.status == 128 and last["repository"] == head_of(clone, repository, "")["repository"] and "TMPDIR" in last["error"]
+    results.check("git cgraph show --json, without a folder for files of a moment", None if right else "it is %r" % (answer,))
+    os.rename(path + b" aside", path)
+    clone.put_program("graphtool", "echo 'refused verify 1'\nexit 1\n")
+    for more in ([], ["--json"]):
+        plain, answer = (ask(clone, ["verify", *more, *option], repository) for option in ([], ["--if-exists"]))
+        results.check("git cgraph %s, damaged" % " ".join(["verify", "--if-exists", *more]), exactly(answer, *plain))
 
 
 def check_bytes(results, clone, repository):

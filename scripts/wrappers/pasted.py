@@ -19,6 +19,8 @@ UNKNOWN = "if it had, put --changed-paths behind the last command"
 NOT_OWN = "is not this repository's own: ask whoever keeps it to "
 ANEW = ("rm -f {file}", "{git} commit-graph write --reachable")
 OWN = ("{git} cgraph write",)
+OWN_LAYER = ("{git} cgraph write --split",)
+FORK = ("fork",)
 
 
 class Row(NamedTuple):
@@ -108,6 +110,29 @@ def linked(place, *options):
 def link_stays(spot):
     """A complaint where the link is no link any more."""
     return spot.verdict() or (None if os.path.islink(spot.path(GRAPH)) else "the link is gone")
+
+
+def linked_folder(name, wrong=False):
+    """A folder of the commit-graph, or its info folder, that stands elsewhere, and to which a link leads."""
+    def make(spot):
+        spot.write(*(["--split"] if name == CHAINS else []))
+        path, elsewhere = (os.path.join(folder, name) if name else folder for folder in (spot.info, os.path.join(spot.root, "elsewhere")))
+        os.makedirs(os.path.dirname(elsewhere), exist_ok=True)
+        os.rename(path, elsewhere)
+        os.symlink(elsewhere, path)
+        borrows = os.path.exists(os.path.join(spot.info, "alternates"))
+        spot.more["kept"] = "mkdir %s && cp %s %s" % tuple(map(quoted, (path, os.path.join(elsewhere, "alternates"), path))) if borrows else ""
+        if wrong:
+            damage(os.path.join(elsewhere, GRAPH))
+        else:
+            spot.advance()
+    return make
+
+
+def kept_alternates(spot):
+    """A complaint where the repository does not find its objects any more."""
+    answer = spot.run("git", "fsck", "--connectivity-only", cwd=spot.folder)
+    return spot.verdict() or (None if answer.status == 0 and not os.path.islink(spot.info) else "it is %r" % (answer,))
 
 
 def linked_chain(spot):
@@ -331,7 +356,7 @@ def not_renamed(spot):
     spot.clone.put("bin/mv", "#!/bin/sh\necho 'Permission denied' >&2\nexit 1\n")
 
 
-FORK, ALL, GIT_WRITES = ("fork",), SPOTS, "{git} commit-graph write --reachable"
+ALL, GIT_WRITES = SPOTS, "{git} commit-graph write --reachable"
 WITH_HEADS = "{git} rev-list --no-walk --all%s | {git} commit-graph write --stdin-commits"
 DAMAGED = (
     Row("a damaged file", "anew removes writes advise_anew", damaged(), ["verify"], ANEW, spots=ALL),
@@ -362,6 +387,17 @@ OTHERS = (
         ("rm -f {file}", *OWN, GIT_WRITES + " --changed-paths"), NOT_OWN + "mend it", spots=ALL),
     Row("a file elsewhere, by a link, and a commit that it lacks", "advise_own", linked_before, ["is-ancestor", "{asked}", "main"],
         ("rm -f {file}", GIT_WRITES), NOT_OWN + "write it again"),
+    *(Row("a file elsewhere, by a link, to be written%s" % (" as a layer" * len(more)), "is_inside writes_by_cgraph", linked_before,
+          ["write", *more], ("rm -f {file}", " ".join([*OWN, *more])), "which is not in this repository", spots=ALL)
+      for more in ([], ["--split"])),
+    Row("a chain elsewhere, by a link, to be written", "is_inside", linked_folder(CHAINS), ["write"], ("rm -f {chains}", *OWN),
+        "remove the link", spots=("plain", "odd", "bare")),
+    Row("a folder elsewhere, by a link, to be written", "is_inside unlinks", linked_folder(""), ["write"], ("rm -f {info}", *OWN),
+        "which is not in this repository", kept_alternates, ("plain", "worktree")),
+    Row("a folder elsewhere with alternates, by a link, to be written", "unlinks", linked_folder(""), ["write", "--split"],
+        ("rm -f {info}", "{kept}", *OWN_LAYER), "which is not in this repository", kept_alternates, FORK),
+    Row("a damaged file in a folder elsewhere, by a link", "advise_own", linked_folder("", True), ["verify"], ("rm -f {info}", *OWN),
+        NOT_OWN + "mend it", kept_alternates, ("plain", "worktree")),
     Row("a damaged file of another repository", "advise_own writes_own", damaged(info="pool_info"), ["verify"],
         OWN, NOT_OWN + "mend it", spots=FORK),
     Row("a damaged file with filters of another repository", "writes_own", damaged("--changed-paths", info="pool_info"), ["verify"],
@@ -412,7 +448,8 @@ UNUSED = (
 
 LACKING = (
     Row("no commit-graph", "diagnose_absent", nothing, ["verify"], (GIT_WRITES,), spots=ALL),
-    Row("a lost chain file over filters", "diagnose_absent", lost_chain, ["verify"], (GIT_WRITES + " --changed-paths",)),
+    *(Row(" ".join(["a lost chain file over filters,", *words]), "diagnose_absent", lost_chain, words, (GIT_WRITES + " --changed-paths",),
+          "there is no commit-graph") for words in (["verify"], ["show", "--if-exists"])),
     Row("a commit of a branch", "diagnose_unknown", later("refs/heads/later"), ["is-ancestor", "main", "{asked}"], (GIT_WRITES,),
         "newer than the commit-graph", has_asked, ALL),
     Row("a commit of a stash", "diagnose_unknown", later("refs/stash"), ["is-ancestor", "main", "{asked}"], (GIT_WRITES,),
@@ -456,7 +493,8 @@ KEPT = (
     Row("a file that may not be renamed", "refuse_placing", not_renamed, ["write"], ("df {info}", "ls -ld {info}"),
         "could not take its place: Permission denied", nothing),
     Row("a folder that may not be written", "refuse_making", closed(".", 0o555), ["write"], ("ls -ld {info}",), "may write there", nothing),
-    Row("a folder that may not be entered", "diagnose_opening", closed(".", 0o600), ["verify"], ("ls -ld {info}",), "may enter the folder", nothing),
+    *(Row(" ".join(["a folder that may not be entered,", *words]), "diagnose_opening", closed(".", 0o600), words, ("ls -ld {info}",),
+          "may enter the folder", nothing) for words in (["verify"], ["verify", "--if-exists"])),
     Row("a file that may not be read", "diagnose_opening", closed(GRAPH, 0), ["verify"], ("ls -l {file}",), "may read the file", nothing),
     Row("an object that may not be read", "diagnose_missing", closed_object, ["verify", "--objects"], ("ls -l {object}",),
         "may read the objects", nothing),

@@ -56,6 +56,9 @@ WRONG = {
     "'write' takes no revision": ["write", "HEAD"],
     "'write' has no option '--changed-paths'": ["write", "--changed-paths"],
     "'verify' has no option '--split'": ["verify", "--split"],
+    "'find' has no option '--if-exists'": ["find", "--if-exists", "HEAD"],
+    "'write' has no option '--if-exists'": ["write", "--if-exists"],
+    "there is no option '--if-exists'": ["--if-exists", "verify"],
     "'ask' has no option '--json': each answer is some lines, and an empty one": ["--json", "ask"],
     "'ask' has no option '--quiet': its answers are all that it is asked for": ["ask", "-q"],
     "'ask' has no option '--progress'": ["ask", "--progress"],
@@ -74,6 +77,7 @@ CONTENT = "CGPH\1\1\3\0" + TABLE
 """A header and a table of chunks, by which there are no filters."""
 
 NEWER = "if the commit is newer than the commit-graph, write that again"
+LACKED = "'%s' (%s) is not in the commit-graph"
 
 
 def check_all(results):
@@ -88,7 +92,12 @@ def check_all(results):
             if shutil.which(shell[0]):
                 check_questions(results, clone, repository, shell)
         check_statuses(results, clone, repository)
+        check_lacked(results, clone, repository)
         check_repeated(results, clone, repository)
+        for shell in SHELLS:
+            if shutil.which(shell[0]):
+                check_reload(results, clone, repository, shell)
+        check_asked(results, clone, repository)
         check_revisions(results, clone, repository)
         check_ends(results, clone, repository)
         results.check("git cgraph, nothing is left over", clone.left_over())
@@ -226,10 +235,11 @@ def check_statuses(results, clone, repository):
         answer = ask(clone, [word, *revisions], repository)
         cure = anew(folder, "commit-graph")
         where = "the file is '%s/commit-graph'" % folder if "layer" in line else ""
-        known = refusals.Known("", NEWER, cure[1:]) if line == "unknown 1" else refusals.Known(where, "", cure)
-        sentences = refusals.sentences(rows, line, word, known) if line not in ("yes", "no", "none") else []
+        known = refusals.Known(where, "", cure)
         if line == "unknown 1":
-            sentences.insert(0, "id 1 is " + git(clone, repository, "rev-parse", revisions[0]))
+            cause = LACKED % (revisions[0], git(clone, repository, "rev-parse", revisions[0]))
+            known = refusals.Known("", NEWER, cure[1:], cause=cause)
+        sentences = refusals.sentences(rows, line, word, known) if line not in ("yes", "no", "none") else []
         results.check("git cgraph %s, answered %r" % (word, line), exactly(answer, expected, line + "\n", said(sentences)))
     clone.put_program("historytool", "echo \"$1\"\n")
     for words, out in (
@@ -249,6 +259,23 @@ def check_statuses(results, clone, repository):
     answer = ask(clone, ["check"], repository)
     err = "usage: other words\n" + said(["the program does not take these words"])
     results.check("git cgraph check, of a program without it", exactly(answer, 128, "", err))
+
+
+def check_lacked(results, clone, repository):
+    """A commit that the commit-graph lacks is named by the word that the user has for it."""
+    rows, cure = refusals.read_rows(), anew("", "commit-graph")[1:]
+    head, before = (git(clone, repository, "rev-parse", name) for name in ("HEAD", "HEAD~1"))
+    for words, number, cause in (
+        ([ODD_REF, "HEAD"], 1, LACKED % (ODD_REF, head)),
+        (["HEAD", "-q", "annotated"], 2, LACKED % ("annotated", before) + "; the commits named before it are"),
+        (["--", ":/first", "HEAD"], 1, LACKED % (":/first", before)),
+        (["HEAD", head], 2, "the commit %s is not in the commit-graph; the commits named before it are" % head),
+    ):
+        line = "unknown %d" % number
+        clone.put_program("historytool", "echo '%s'\nexit 1\n" % line)
+        err = said(refusals.sentences(rows, line, "walk", refusals.Known("", NEWER, cure, cause=cause)))
+        answer = ask(clone, ["walk", *words], repository)
+        results.check("git cgraph walk %s, %s" % (" ".join(words), line), exactly(answer, 128, "" if "-q" in words else line + "\n", err))
 
 
 def check_repeated(results, clone, repository):
@@ -287,6 +314,70 @@ def check_repeated(results, clone, repository):
         results.check(title, exactly(answer, *wanted))
     shutil.rmtree(os.path.join(info, b"commit-graphs"))
     os.rename(os.path.join(info, b"aside"), os.path.join(info, b"commit-graph"))
+
+
+RELOADS = """
+case $* in
+*info/commit-graph) echo 'refused verify 4 layer 0 fault 1'; exit 1 ;;
+esac
+printf 'ok commits 2\\n\\n'
+while read -r question; do
+    case $question in
+    gone) mv '{info}/commit-graph' '{info}/aside'; echo yes ;;
+    *) echo "$question" ;;
+    esac
+    echo
+done
+"""
+"""A program that answers each question by the question itself. By one of them the commit-graph goes away."""
+
+
+def check_reload(results, clone, repository, shell):
+    """Where `reload` is refused, that is told once, with the file and what is wrong with it by itself."""
+    plain = os.path.join(os.path.dirname(repository), b"asked")
+    os.rename(repository, plain)
+    info = os.path.join(plain, b".git/objects/info").decode()
+    clone.put_program("historytool", RELOADS.format(info=info))
+    rows, refused, fault = refusals.read_rows(), "refused open 2", "refused verify 4 layer 0 fault 1"
+    still = "the answer is '%s': the commit-graph that was read before still counts"
+    by_itself = ["the file by itself gets '%s'" % fault]
+    known = refusals.Known("the file is '%s/commit-graph'" % info, "", anew(info, "commit-graph"))
+    wrong = by_itself + refusals.sentences(rows, fault, "ask", known)
+    absent = "there is no commit-graph"
+    none = [absent, *refusals.sentences(rows, absent, "ask", refusals.Known("", "have Git write one", anew(info, "commit-graph")[1:]))]
+    for words, lines, err in (
+        ([], ["yes", refused, "refused question", refused, "refused walk", "no"], [still % refused, *wrong]),
+        ([], [refused, "ok commits 2", refused], [still % refused, *wrong] * 2),
+        (["--unchecked"], [refused, refused, fault], ["the answer is '%s'" % refused, *wrong, "the answer is '%s'" % fault, *wrong[1:]]),
+        ([], ["refused verify 10"], [still % "refused verify 10", *by_itself, *wrong[1:]]),
+        ([], ["yes", "no", "refused question", "refused walk", "refused read 2"], []),
+        ([], ["gone", refused, refused], [still % refused, *none]),
+    ):
+        answer = ask(clone, ["ask", *words], plain, shell, input="".join(line + "\n" for line in lines).encode())
+        out = "".join(("yes" if line == "gone" else line) + "\n\n" for line in ["ok commits 2", *lines])
+        title = "%s git-cgraph %s, answered %s" % (" ".join(shell), " ".join(["ask", *words]), ", ".join(lines))
+        results.check(title, exactly(answer, 0, out, said(err)))
+    os.rename(info + "/aside", info + "/commit-graph")
+    os.rename(plain, repository)
+
+
+def check_asked(results, clone, repository):
+    """How `ask` ends where nobody reads the answers, where there is no room for them, and without standard error."""
+    clone.put_program("historytool", "printf 'ok commits 2\\n\\n'\ncat\n")
+    path, asked = os.path.join(clone.folder, "git-cgraph"), b"refused open 2\n\n" * 3
+    unwritten = "the answer could not be written"
+    err = said([unwritten, *refusals.sentences(refusals.read_rows(), unwritten)])
+    reading, writing = os.pipe()
+    os.close(reading)
+    answer = run([path, "ask"], clone.surroundings(), cwd=repository, input=asked, stdout=writing)
+    os.close(writing)
+    results.check("git-cgraph ask, nobody reads", exactly(answer, 141, ""))
+    with open("/dev/full", "wb") as full:
+        answer = run([path, "ask"], clone.surroundings(), cwd=repository, input=asked, stdout=full)
+    right = answer.status == 128 and answer.err.endswith(err)
+    results.check("git-cgraph ask, to a full device", None if right else "it is %r" % (answer,))
+    answer = run([path, "ask"], clone.surroundings(), cwd=repository, input=asked, stderr=None, preexec_fn=lambda: os.close(2))
+    results.check("git-cgraph ask, with no standard error", exactly(answer, 0, "ok commits 2\n\n" + asked.decode()))
 
 
 def check_revisions(results, clone, repository):
@@ -337,10 +428,13 @@ def check_ends(results, clone, repository):
         err = sentences.replace("git cgraph", name)
         right = (141, "0 0000000000\n", "") if name == "git-cgraph" else (2, "0 0000000000\n", err)
         results.check("%s, nobody reads on" % name, None if answer == right else "it is %r" % (answer,))
-    clone.put_program("graphtool", "kill -9 $$\n")
-    ended = "ended by signal 9"
-    answer = ask(clone, ["verify"], repository)
-    results.check("git cgraph, " + ended, exactly(answer, 137, "", said([ended, *refusals.sentences(rows, ended)])))
+    for number in (signal.SIGKILL, signal.SIGXFSZ, signal.SIGSEGV):
+        clone.put_program("graphtool", "kill -%d $$\n" % number)
+        ended = "ended by signal %d" % number
+        answer = ask(clone, ["verify"], repository)
+        sentences = said([ended, *refusals.sentences(rows, ended)])
+        right = number.name in sentences and ("memory" in sentences) == (number == signal.SIGKILL)
+        results.check("git cgraph, " + ended, exactly(answer, 128 + number, "", sentences) if right else "it is %r" % sentences)
     for number in (signal.SIGINT, signal.SIGTERM, signal.SIGHUP):
         results.check("git cgraph, sent %s" % number.name, interrupted(clone, repository, number))
     results.check("git cgraph, ended by itself", ended_alone(clone, repository))

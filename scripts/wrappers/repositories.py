@@ -185,7 +185,8 @@ def check_refused(results, own, _other):
     own.clone.put_program("graphtool", "exit 9\n")
     rows, info = refusals.read_rows(), os.path.join(os.fsdecode(own.objects), "info")
     file = own.put("commit-graph", HEADS["sha256"])
-    known = refusals.Known("the file is '%s'" % os.fsdecode(file), "", anew(info, "commit-graph"))
+    cause = "the ids of the commit-graph are of SHA-256, and those of the repository of SHA-1"
+    known = refusals.Known("the file is '%s'" % os.fsdecode(file), "", anew(info, "commit-graph"), cause=cause)
     for word, status in (("verify", 1), ("distinct", 1), ("list", 128)):
         err = said(refusals.sentences(rows, "refused git 1", word, known))
         results.check("git cgraph %s, of the other hash" % word, exactly(own.ask(word), status, "refused git 1\n", err))
@@ -193,7 +194,7 @@ def check_refused(results, own, _other):
     chain = own.put_chain(NAMES, "\r\n")
     for name in NAMES:
         own.put_layer(name)
-    where = "this is line 1 of '%s'" % os.fsdecode(chain)
+    where = "the chain file is '%s'" % os.fsdecode(chain)
     known = refusals.Known(where, "", anew(info, "commit-graphs", "--split"))
     err = said(refusals.sentences(rows, "refused git 2 line 0", "verify", known))
     answer = own.ask("verify")

@@ -10,6 +10,13 @@ from wrappers.table import commands
 NUMBERS = {letter: str(7 * place + 3) for place, letter in enumerate("ABCDEFGHIJKLMOPQRSTUVWXYZ")}
 """A number for each letter but N."""
 
+NEITHER = "there is neither '%s/commit-graph' nor a chain file '%s/commit-graphs/commit-graph-chain'"
+KNOWN = {
+    "refused open 1": refusals.Known(cause="no file or folder is at '.'"),
+    "refused open 2": refusals.Known(cause=NEITHER % (".", ".")),
+}
+"""What is known of a folder without a commit-graph, which is what the programs are asked about, by the lines that speak of it."""
+
 COMMANDS = {command.word: [command.program, command.word, *command.operands()] for command in commands()}
 """The words by which each command is run."""
 
@@ -21,7 +28,7 @@ def check_all(results):
         clone = Clone(folder)
         for line, command in sorted(set(examples(rows))):
             answer = ask(clone, line, command)
-            said = refusals.sentences(rows, line, command)
+            said = refusals.sentences(rows, line, command, KNOWN.get(line))
             title = "the sentences of %r from %s" % (line, command)
             results.check(title, right(answer, line, command, said))
         check_unknown(results, clone, rows)
@@ -29,6 +36,8 @@ def check_all(results):
         check_other_line(results, clone)
         check_info_folder(results, clone, rows)
         check_files(results, clone, rows)
+        check_obstacles(results, clone, rows)
+        check_input(results, clone, rows)
         check_cut_short(results, clone)
         results.check("sentences, nothing is left over", clone.left_over())
 
@@ -61,10 +70,12 @@ def right(answer, line, command, said):
 
 def check_unknown(results, clone, rows):
     """An id that is not there is named."""
-    clone.put_program("historytool", "echo 'unknown 2'\nexit 1\n")
-    answer = clone.run(["historytool", "merge-base", ".", "aa", "bb", "cc"])
-    said = ["id 2 is bb", *refusals.sentences(rows, "unknown 2")]
-    results.check("an unknown id is named", right(answer, "unknown 2", "merge-base", said))
+    for line, cause in (("unknown 1", "aa is not in the graph"), ("unknown 2", "bb is not in the graph; the ids given before it are")):
+        clone.put_program("historytool", "echo '%s'\nexit 1\n" % line)
+        for more in ([], ["--unchecked"]):
+            answer = clone.run(["historytool", "merge-base", *more, ".", "aa", "bb", "cc"])
+            said = refusals.sentences(rows, line, "merge-base", refusals.Known(cause=cause))
+            results.check(" ".join(["an unknown id is named,", line, *more]), right(answer, line, "merge-base", said))
 
 
 def check_no_id(results, clone, rows):
@@ -91,7 +102,7 @@ def check_info_folder(results, clone, rows):
     refused = "the file '%s/commit-graph' was refused, and there is no chain beside it" % path
     clone.put_program("graphtool", "echo '%s'\nexit 1\n" % line)
     for chain, known in (
-        (False, refusals.Known(refused, "give the path of that file, to see why it was refused")),
+        (False, refusals.Known(cause=refused, advice="give the path of that file, to see why it was refused")),
         (True, refusals.Known()),
     ):
         if chain:
@@ -102,7 +113,7 @@ def check_info_folder(results, clone, rows):
 
 
 def check_files(results, clone, rows):
-    """The file of the layer is named, by its number or by a position, at whatever path it was found."""
+    """The file of the layer is named, by its number or by a position, at whatever path it was found, and what is to be removed."""
     single, chain, info = ("%s/%s" % (clone.folder, name) for name in ("single", "of/commit-graphs", "of"))
     clone.put("single", "")
     clone.put("of/commit-graphs/commit-graph-chain", "aa\nbb\n")
@@ -110,20 +121,76 @@ def check_files(results, clone, rows):
         clone.put("of/commit-graphs/graph-%s.graph" % layer, "")
     clone.put_program("graphtool", "echo 'layer sha1 bases 0 commits 2'\nprintf '%d ab - 1 5 -\\n' 0 1\n")
     above = "layer 1 is '%s/graph-bb.graph'" % chain
+    beside = "'%s/commit-graph-chain' and the layers beside it" % chain
+    opened = {single: "'%s'" % single, chain: beside, info: "the folder '%s'" % chain}
     for path, line, where, id_line in (
         (single, "refused verify 4 layer 0 fault 1", "the file is '%s'" % single, []),
         (single, "refused dates 3 position 1", "the file is '%s'" % single, ["the commit at position 1 is ab"]),
         *((path, "refused open 5 layer 1 file 2", above, []) for path in (chain, info)),
         *((path, "refused verify 5 position 3 fault 1", above, ["the commit at position 3 is ab"]) for path in (chain, info)),
         (info, "refused open 6 graph 1", "the chain file is '%s/commit-graph-chain'" % chain, []),
+        (chain, "refused open 4 line 0", "the chain file is '%s/commit-graph-chain'" % chain, []),
         (info, "refused filters 10", "", []),
     ):
         clone.put_program("historytool", "echo '%s'\nexit 1\n" % line)
         answer = clone.run(["historytool", "check", path])
-        said = id_line + refusals.sentences(rows, line, "check", refusals.Known(where))
+        said = id_line + refusals.sentences(rows, line, "check", refusals.Known(where, opened=opened[path]))
         err = "".join("historytool: %s\n" % sentence for sentence in said)
         title = "the file of %r at %s" % (line, os.path.basename(path))
         results.check(title, exactly(answer, 1, line + "\n", err))
+
+
+def check_obstacles(results, clone, rows):
+    """The file that is not there, or is no file, is named in one sentence, and what is to be done about it."""
+    info, folder = ("%s/%s" % (clone.folder, name) for name in ("of", "of/commit-graphs"))
+    chain, line = folder + "/commit-graph-chain", "refused open 2"
+    names = "the file '%s/graph-bb.graph', which line 2 of '%s' names, " % (folder, chain)
+    elsewhere = "see whether another object folder has it: 'historytool' looks into no other, and 'git cgraph' does. Else write it anew"
+    beside, whole = "'%s' and the layers beside it" % chain, "the folder '%s'" % folder
+    layer, aside = folder + "/graph-bb.graph", folder + "/aside"
+    os.rename(layer, aside)
+    for way, cause, advice in (
+        (None, names + "is missing", elsewhere),
+        ("nothing", names + "is a link to what is not there", refusals.ANEW),
+        (".", names + "is a folder, not a file", refusals.ANEW),
+    ):
+        if way:
+            os.symlink(way, layer)
+        for path, opened in ((folder, beside), (info, whole)):
+            known = refusals.Known(cause=cause, advice=advice, opened=opened)
+            check_known(results, clone, rows, (line, path, cause[len(names) :]), known)
+        if way:
+            os.remove(layer)
+    os.rename(aside, layer)
+    empty = os.path.dirname(clone.temporary)
+    for line, cause in ((line, NEITHER % (empty, empty)), ("refused open 1", "no file or folder is at '%s'" % empty)):
+        check_known(results, clone, rows, (line, empty, "is empty"), refusals.Known(cause=cause))
+
+
+def check_known(results, clone, rows, asked, known):
+    """The sentences of a line at a path, of which something is known."""
+    line, path, title = asked
+    clone.put_program("historytool", "echo '%s'\nexit 1\n" % line)
+    said = refusals.sentences(rows, line, "check", known)
+    title = "%r of a graph at %s, where something %s" % (line, path[len(clone.folder) :] or "a folder", title)
+    results.check(title, right(clone.run(["historytool", "check", path]), line, "check", said))
+
+
+def check_input(results, clone, rows):
+    """The file on standard input is named, too, and what is to be removed of an info folder that has a file and a chain."""
+    single, line = "%s/single" % clone.folder, "refused file 1"
+    clone.put_program("graphtool", "echo '%s'\nexit 1\n" % line)
+    known = refusals.Known("the file is '%s'" % single, opened="'%s'" % single)
+    with open(single, "rb") as file:
+        answer = clone.run(["graphtool", "list"], stdin=file)
+    results.check("the file on standard input", right(answer, line, "list", refusals.sentences(rows, line, "list", known)))
+    path, line = "%s/info" % clone.folder, "refused verify 1"
+    for opens, opened in ((True, "'%s/commit-graph'" % path), (False, "'%s/commit-graph' and the folder '%s/commit-graphs'" % (path, path))):
+        answers = "case $1 in list) %s ;; *) echo '%s'; exit 1 ;; esac\n" % ("echo 'layer sha1 bases 0 commits 2'" if opens else "exit 1", line)
+        clone.put_program("graphtool", answers)
+        said = refusals.sentences(rows, line, "verify", refusals.Known(opened=opened))
+        title = "an info folder with a file that %s, and a chain" % ("opens" if opens else "does not open")
+        results.check(title, right(clone.run(["graphtool", "verify", path]), line, "verify", said))
 
 
 def check_cut_short(results, clone):

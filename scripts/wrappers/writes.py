@@ -251,7 +251,8 @@ def check_told(results, written):
     results.check("git cgraph write -q", exactly(written.write("-q"), 0, ""))
     path = os.path.join(written.info, "commit-graph")
     answer = written.write("--json")
-    fields = {"command": "write", "status": 0, "commit_graph": path, "commits": len(ids)}
+    repository = os.path.join(written.folder, ".git")
+    fields = {"command": "write", "status": 0, "repository": repository, "commit_graph": path, "commits": len(ids)}
     results.check("git cgraph write --json", None if objects_in(answer.out) == [fields] and not answer.err else "it is %r" % (answer,))
     answer = written.write("--json", "--split")
     fields = {**fields, "commits": 0, "warnings": [NOTHING]}
@@ -501,7 +502,7 @@ def rights_below(folder):
 
 
 def check_folders(results, written):
-    """A folder that is named has to be one of the object folders; links are followed, as Git follows them."""
+    """A folder that is named has to be one of the object folders."""
     answer = written.write("--object-dir", written.folder)
     cure = "    git cgraph write\n"
     right = answer[:2] == (128, "") and "is none of the object folders of this repository\n" in answer.err and answer.err.endswith(cure)
@@ -515,11 +516,35 @@ def check_folders(results, written):
     answer = ask(written.clone, ["write"], fork)
     right = answer[:2] == (0, "ok commits %d\n" % len(ids)) and os.path.exists(os.path.join(fork, ".git/objects/info/commit-graph"))
     results.check("git cgraph write, of a fork", None if right else "it is %r" % (answer,))
-    os.rename(os.path.join(written.info, "commit-graph"), os.path.join(written.folder, "elsewhere"))
-    os.symlink("../../../elsewhere", os.path.join(written.info, "commit-graph"))
+    check_links(results, written, fork)
+
+
+def check_links(results, written, fork):
+    """A link to a file of the repository is followed, as Git follows it. One that leads out of it is not: nothing changes there."""
+    inside, outside = (os.path.join(folder, "elsewhere") for folder in (os.path.dirname(written.info), written.folder))
+    path = os.path.join(written.info, "commit-graph")
+    os.rename(path, inside)
+    os.symlink("../elsewhere", path)
     answer = written.write()
-    right = answer.status == 0 and os.path.islink(os.path.join(written.info, "commit-graph"))
+    right = answer.status == 0 and os.path.islink(path)
     results.check("git cgraph write, where the file is a link", None if right else "it is %r" % (answer,))
+    os.remove(path)
+    os.rename(inside, outside)
+    os.symlink("../../../elsewhere", path)
+    before, objects = os.stat(outside), os.path.dirname(written.info)
+    asks = "ask whoever keeps '%s' to remove this link" % objects
+    for folder, words, reason, advice in (
+        (written.folder, [], "'%s' leads to '%s', which is not in this repository" % (path, outside), "remove the link, and write"),
+        (written.folder, ["--split"], "which is not in this repository", "remove the link, and write"),
+        (fork, ["--object-dir", objects], "'%s' leads to '%s', which is not in its repository" % (path, outside), asks),
+    ):
+        answer = ask(written.clone, ["write", *words], folder)
+        right = answer[:2] == (128, "") and answer.err.startswith(said([UNWRITTEN])) and reason in answer.err
+        right = right and advice in answer.err and os.stat(outside) == before and os.path.islink(path) and not os.path.exists(outside + ".lock")
+        title = "git cgraph write %s, where a link leads out of the repository" % " ".join(words[:1])
+        results.check(title, None if right else "it is %r" % (answer,))
+    os.remove(path)
+    os.remove(outside)
 
 
 def check_empty(results, written):

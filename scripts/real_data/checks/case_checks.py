@@ -22,6 +22,7 @@ NOBODY = 65534
 PAGE = b"<!DOCTYPE html>\n<html><head><title>404 Not Found</title></head>\n<body>" + b"<p>Not found.</p>\n" * 100 + b"</body></html>\n"
 NOT_OPENED = "refused open [12]"
 DENIED = "may not be read (permission denied)"
+LINE_1 = "git cgraph: line 1 of the chain file %s\ngit cgraph: the chain file is '{chain}'\n"
 
 
 class Case(NamedTuple):
@@ -139,9 +140,9 @@ ON_CHAIN = (
     of_chain("a line twice", by_lines(lambda lines: [lines[0], *lines]), "refused verify 2 layer 1", "layer 1 is '{0}', by line 2 of '{chain}'"),
     of_chain("its first line gone", by_lines(lambda lines: lines[1:]), "refused verify 2 layer 0", "layer 0 is '{1}', by line 1 of '{chain}'"),
     of_chain("a blank line", by_lines(lambda lines: [lines[0], b"\n", *lines[1:]]), NOT_OPENED, "which line 2 of '{chain}' names, is missing"),
-    of_chain("CR before the line ends", by(lambda content: content.replace(b"\n", b"\r\n")), "refused git 2 line 0", "this is line 1 of '{chain}'"),
+    of_chain("CR before the line ends", by(lambda content: content.replace(b"\n", b"\r\n")), "refused git 2 line 0", LINE_1 % "ends with CR and LF, so that Git finds no layer of that name"),
     of_chain("no line", becomes(b""), "refused open 6 graph 1", "the chain file is '{chain}'"),
-    of_chain("no text", becomes(b"\xff\xfe\n"), "refused open [24].*", "line 1 of '{chain}'"),
+    of_chain("no text", becomes(b"\xff\xfe\n"), "refused open 4 line 0", LINE_1 % "is not UTF-8"),
     of_chain("a page of HTML", becomes(PAGE), NOT_OPENED, "which line 1 of '{chain}' names, is missing"),
     of_chain("a link to nothing in its place", to_nothing, NOT_OPENED, "the file '{chain}' is a link to what is not there"),
     of_chain("a folder in its place", to_folder, NOT_OPENED, "the file '{chain}' is a folder, not a file"),

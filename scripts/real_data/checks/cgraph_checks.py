@@ -24,6 +24,7 @@ from wrappers.json_answers import difference, objects_in
 from wrappers.tools import read
 
 ODD_TAG = "odd';$(id)\"&|<>`\u00e9!#%"
+ELSEWHERE = "see whether another object folder has it: 'graphtool' looks into no other, and 'git cgraph' does. Else write it anew"
 SHORTEST = 4
 """The fewest digits by which Git looks for an id."""
 
@@ -141,12 +142,16 @@ def check_examples(installed, results, folder):
 
 
 def check_recipes(installed, results, folder, repository):
-    """The recipes of the manual, for a folder of repositories, where all is right and where a commit-graph is damaged."""
+    """The recipes of the manual, for a folder of repositories, where all is right and where a commit-graph is damaged. One has none,
+    of which nothing is said, and each is named in JSON.
+    """
     recipes = re.search(r"## Recipes\n(.*?)\n## ", read("docs", "MANUAL.md"), re.DOTALL).group(1)
     repository.add(shapes.diamonds(2))
     repository.write_graph()
     os.mkdir(folder)
     os.symlink(repository.folder, os.path.join(folder, "project.git"))
+    installed.git(Way(folder), "init", "-q", "--bare", "none.git")
+    both = {os.path.realpath(os.path.join(folder, name)) for name in ("project.git", "none.git")}
     for damaged in (False, True):
         for line in re.findall(r"^    (?:0 \d \* \* [*0] )?(.*)$", recipes, re.MULTILINE):
             if "--objects" in line and not installed.knows_objects:
@@ -159,6 +164,7 @@ def check_recipes(installed, results, folder, repository):
             told = repository.graph_path() in answer.err if damaged and " write " not in line else not answer.err
             ends = bool(answer.status) == (damaged and " write " not in line and not line.startswith("find"))
             right = told and ends and is_json(answer.out) == ("--json" in line)
+            right = right and (not answer.out.startswith("{") or {last["repository"] for last in objects_in(answer.out)} == both)
             title = "the recipe %r, of a %s commit-graph" % (line, "damaged" if damaged else "right")
             results.check(title, None if right else "it is %r" % (answer,))
             repository.write_graph()
@@ -421,14 +427,41 @@ def check_refusal(installed, results, repository, case):
     commit = ["the commit at position %s is %s" % at for at in [position_in(line, layers)] if at]
     words = [os.path.join(installed.prefix, "bin", "graphtool"), "verify", repository.graph_path() if is_file else info]
     answer = run(words, installed.variables)
-    known = refusals.Known(file_in(line, layers, repository.graph_path() if is_file else os.path.join(info, trees.GRAPHS), is_file))
+    where = file_in(line, layers, repository.graph_path() if is_file else os.path.join(info, trees.GRAPHS), is_file)
+    cause, advice = obstacle_in(info) if line == wrong_trees.NOT_OPENED else ("", "")
+    opened = "'%s'" % repository.graph_path() if is_file else files_in(info)
+    known = refusals.Known(where, advice, cause=cause, opened=opened)
     err = refusals.written("graphtool", [*commit, *refusals.sentences(rows, line.strip(), "verify", known)])
     complaint = None if answer == (1, line, err) else "it is %r, expected %r" % (answer, (1, line, err))
     results.check("graphtool verify, %s, in sentences" % name, complaint)
     there = any(os.path.lexists(path) for path in (repository.graph_path(), os.path.join(info, trees.CHAIN)))
-    text = line.strip() if there else "there is no commit-graph"
-    start = refusals.written("git cgraph", [*([] if there else [text]), *commit, refusals.sentences(rows, text, "verify")[0]])
+    text, known = (line.strip(), refusals.Known(cause=cause)) if there else ("there is no commit-graph", None)
+    start = refusals.written("git cgraph", [*([] if there else [text]), *commit, refusals.sentences(rows, text, "verify", known)[0]])
     check_cure(installed, results, repository, (name, line, 1 if there else 128, start))
+
+
+def files_in(info):
+    """The files of the commit-graph in an info folder, as they are named where they have to go away."""
+    forms = ((trees.FILE, "'%s'"), (trees.GRAPHS, "the folder '%s'"))
+    return " and ".join(form % os.path.join(info, name) for name, form in forms if os.path.lexists(os.path.join(info, name)))
+
+
+def obstacle_in(info):
+    """What is wrong with the first file of a commit-graph in an info folder that is not there or is a folder, and what to do."""
+    file, chain = (os.path.join(info, name) for name in (trees.FILE, trees.CHAIN))
+    if not os.path.lexists(chain):
+        folder = "the file '%s' is a folder, not a file" % file, refusals.ANEW
+        return folder if os.path.isdir(file) else ("there is neither '%s' nor a chain file '%s'" % (file, chain), "")
+    if os.path.isdir(chain):
+        return "the file '%s' is a folder, not a file" % chain, refusals.ANEW
+    for number, line in enumerate(read_bytes(chain).splitlines(), 1):
+        layer = os.path.join(os.path.dirname(chain), "graph-%s.graph" % os.fsdecode(line))
+        names = "the file '%s', which line %d of '%s' names, " % (layer, number, chain)
+        if not os.path.lexists(layer):
+            return names + "is missing", ELSEWHERE
+        if os.path.isdir(layer):
+            return names + "is a folder, not a file", refusals.ANEW
+    raise ValueError("all files are there")
 
 
 def check_cure(installed, results, repository, case):
