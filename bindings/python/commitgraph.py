@@ -517,7 +517,7 @@ def _how_to_install() -> str:
     script = (CLONE / "scripts/library").resolve()
     build = "run " + (shlex.quote(str(script)) if script.exists() else "scripts/library in a clone of Nolavimure")
     first = "unset COMMITGRAPH_LIB and " if os.environ.get("COMMITGRAPH_LIB") else ""
-    return f"{first}{build}, which proves and builds it; or after scripts/install PREFIX let COMMITGRAPH_LIB name the folder PREFIX/lib"
+    return f"{first}{build}, which proves and builds it; or after scripts/install --library PREFIX let COMMITGRAPH_LIB name the folder PREFIX/lib"
 
 
 _library = _load()

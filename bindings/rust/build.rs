@@ -32,7 +32,7 @@ fn give_up(folders: &[PathBuf], elsewhere: &str, first: &str) -> ! {
     let script = if script.is_file() { format!("'{}'", script.display()) } else { "scripts/library in a clone of Nolavimure".into() };
     eprintln!(
         "there is no {}, and {elsewhere}; what to do: {first}run {script}, which proves and builds it; or after scripts/install \
-         PREFIX let COMMITGRAPH_LIB name the folder PREFIX/lib",
+         --library PREFIX let COMMITGRAPH_LIB name the folder PREFIX/lib",
         places.join(", and no ")
     );
     exit(1);
@@ -87,7 +87,7 @@ fn archive(folders: &[PathBuf], name: &str) -> Option<PathBuf> {
     folders.iter().map(|folder| folder.join(format!("lib{name}.a"))).find(|path| path.is_file())
 }
 
-/// Links the library that `scripts/install` has put where `pkg-config` looks.
+/// Links the library that `scripts/install --library` has put where `pkg-config` looks.
 fn link_installed() -> bool {
     println!("cargo:rerun-if-env-changed=PKG_CONFIG_PATH");
     let asked = Command::new("pkg-config").args(["--variable=libdir", "commitgraph"]).output();
