@@ -49,6 +49,11 @@ impl Graph {
     ///
     /// The layers make no graph, or memory ran out.
     pub fn new(files: Vec<File>) -> Result<Graph, Error> {
+        let files = match <[File; 1]>::try_from(files) {
+            // Its graph is at hand.
+            Ok([file]) => return Ok(Graph { layers: file.layers }),
+            Err(files) => files,
+        };
         let files = files.into_iter().flat_map(|file| file.layers.all).map(|layer| layer.into_file()).collect();
         Ok(Graph { layers: Layers::of_files(files)? })
     }

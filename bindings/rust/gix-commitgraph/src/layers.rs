@@ -13,6 +13,8 @@ use std::path::{Path, PathBuf};
 pub(crate) struct Layers {
     pub(crate) graph: commitgraph::Graph,
     pub(crate) all: Vec<Layer>,
+    /// The position of the first commit of each, side by side, since each lookup of a position reads some of them.
+    starts: Vec<u32>,
     pub(crate) kind: gix_hash::Kind,
 }
 
@@ -32,6 +34,9 @@ pub(crate) struct Layer {
 /// The bytes of a record, besides its root tree: two words for parents, and then the generation number and the time ("Commit Data").
 pub(crate) type Fields = [u8; 16];
 
+/// Of at most so many layers the starts are counted.
+const FEW: usize = 16;
+
 impl Layers {
     /// The layers of a graph that was opened of these files, the lowest first. What the graph tells of one layer by its number takes a
     /// step for each layer below it, so that their sizes are read from the files.
@@ -47,9 +52,10 @@ impl Layers {
             first += layer.commits;
             layer
         };
-        let all = files.into_iter().map(&mut next).collect();
+        let all: Vec<_> = files.into_iter().map(&mut next).collect();
         debug_assert_eq!(first, graph.num_commits());
-        Ok(Layers { graph, all, kind })
+        let starts = all.iter().map(|layer| layer.first).collect();
+        Ok(Layers { graph, all, starts, kind })
     }
 
     /// The layers of these files, the lowest first.
@@ -73,12 +79,21 @@ impl Layers {
         self.all.iter().flat_map(Layer::positions).map(|(layer, pos)| layer.id_at(pos))
     }
 
+    /// How many layers begin at a position or before. A few are counted without a branch that depends on the position, which costs less
+    /// than to search them by halves.
+    #[inline]
+    fn begun(&self, pos: Position) -> usize {
+        if self.starts.len() <= FEW {
+            return self.starts.iter().filter(|first| **first <= pos.0).count();
+        }
+        self.starts.partition_point(|first| *first <= pos.0)
+    }
+
     /// The layer of a position, and the position there. Panics where it is none of the graph's.
     #[inline]
     pub(crate) fn place(&self, pos: Position) -> (&Layer, file::Position) {
         // The last layer that begins there or before has it: an empty one begins where the next one does.
-        let after = self.all.partition_point(|layer| layer.first <= pos.0);
-        match after.checked_sub(1).map(|last| &self.all[last]) {
+        match self.all[..self.begun(pos)].last() {
             Some(layer) if pos.0 - layer.first < layer.commits => (layer, file::Position(pos.0 - layer.first)),
             _ => panic!("position {pos} of {} commits", self.graph.num_commits()),
         }
