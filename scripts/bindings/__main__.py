@@ -431,7 +431,7 @@ def rust_tests(crate, environment):
     """The tests of the Rust crate, and that of its threads under ThreadSanitizer, where a toolchain can."""
     done = run("cargo", "test", "--quiet", "--offline", cwd=crate, env=environment)
     expect("Rust: tests", done.returncode == 0 and "4 threads read" in done.stdout, done)
-    expect("Rust: the tests are all made", all(f"{n} passed" in done.stdout for n in (28, 4)), done)
+    expect("Rust: the tests are all made", all(f"{n} passed" in done.stdout for n in (1, 32, 4, 3)), done)
     command = ["cargo", "+nightly", "test", "--quiet", "--offline", "--test", "threads", "--target", "x86_64-unknown-linux-gnu"]
     at = {**environment, "RUSTFLAGS": SANITIZED}
     if run(*command, "--no-run", cwd=crate, env=at).returncode:
@@ -441,13 +441,17 @@ def rust_tests(crate, environment):
         expect("Rust: ThreadSanitizer", done.returncode == 0 and "4 threads read" in done.stdout, done)
 
 
+DOCUMENTED = ["-W", "clippy::missing_errors_doc", "-W", "clippy::must_use_candidate"]
+"""What clippy is asked for besides: that each call says its errors, and that no answer is dropped unseen."""
+
+
 def without_warnings(crate, environment):
     """What clippy says of both Rust crates."""
     if run("cargo", "clippy", "--version").returncode:
         print("Rust: clippy: left out, since cargo has no clippy")
         return
     for folder, flags in ((crate, []), (crate / "gix-commitgraph", ["--features", "sha1,sha256"])):
-        words = ["cargo", "clippy", "--quiet", "--offline", "--all-targets", *flags, "--", "-D", "warnings"]
+        words = ["cargo", "clippy", "--quiet", "--offline", "--all-targets", *flags, "--", *DOCUMENTED, "-D", "warnings"]
         done = run(*words, cwd=folder, env=environment)
         expect(f"Rust: clippy, {folder.name}", done.returncode == 0 and not done.stderr, done)
 
@@ -516,6 +520,8 @@ def names_of_the_original(crate, environment, scratch):
     or what it answered once."""
     done, program = gix.build(crate, environment)
     expect("gix-commitgraph: each public item", done.returncode == 0, done)
+    done = run("cargo", "test", "--quiet", "--offline", "--tests", "--features", "sha1,sha256", cwd=crate, env=environment)
+    expect("gix-commitgraph: tests", done.returncode == 0 and "6 passed" in done.stdout, done)
     done, original = gix.build_original(crate, environment, scratch)
     expect("gix-commitgraph: each public item of the original", done is None or done.returncode == 0, done)
     known, unknown = gix.recorded(), 0

@@ -180,11 +180,14 @@ fn not_opened(error: &OpenError, list: bool) -> String {
     }
 }
 
-/// Says why no graph was opened, and what the system says of a file that was not read.
+/// Says why no graph was opened, what the system says of a file that was not read, and what to do.
 fn complain(error: &OpenError) {
     match error.source() {
         Some(source) => eprintln!("ask: {error}: {source}"),
         None => eprintln!("ask: {error}"),
+    }
+    if !error.advice().is_empty() {
+        eprintln!("ask: what to do: {}", error.advice());
     }
 }
 

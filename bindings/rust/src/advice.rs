@@ -1,7 +1,7 @@
-//! What to do about a refusal, as `cg_advice` of `commitgraph.h` says it.
+//! What to do about a refusal, as `cg_advice` of `commitgraph.h` says it; where it is known what was opened, that is named.
 
-use crate::{DatesError, Mismatch, ProbeError, WriteError};
-use std::fmt;
+use crate::{DatesError, Graph, Mismatch, ProbeError, VerifyError, WriteError};
+use std::path::{Path, PathBuf};
 
 macro_rules! anew {
     () => {
@@ -45,13 +45,51 @@ pub(crate) const NOTHING: &str = "see whether `git rev-list --all` lists any";
 pub(crate) const NO_IDS: &str = "hand in whole ids";
 pub(crate) const TOO_MANY_LAYERS: &str = "write the chain anew as one file";
 
-/// Writes what to do after what happened, where that is known.
-pub(crate) fn write_after(f: &mut fmt::Formatter<'_>, advice: &str) -> fmt::Result {
-    if advice.is_empty() { Ok(()) } else { write!(f, "; what to do: {advice}") }
+/// What to do, with the paths of what was opened, where they are known, in the place of those of most repositories.
+pub(crate) fn naming(advice: &str, opened: &[&Path]) -> String {
+    let mut removed: Vec<_> = opened.iter().filter(|path| !path.as_os_str().is_empty()).map(|path| whole(path)).collect();
+    removed.dedup();
+    if removed.is_empty() {
+        return advice.to_owned();
+    }
+    let after = ANEW.find(", and then run ").unwrap_or(ANEW.len());
+    advice.replace(ANEW, &format!("remove {}{}", removed.join(" and "), &ANEW[after..]))
+}
+
+/// What a file is a part of: of the chain in its folder, where it has the name of a part of one; else of nothing more.
+fn whole(path: &Path) -> String {
+    let name = path.file_name().unwrap_or_default().to_string_lossy();
+    if name == "commit-graph-chain" || name.starts_with("graph-") && name.ends_with(".graph") {
+        let folder = path.parent().filter(|folder| !folder.as_os_str().is_empty()).unwrap_or(Path::new("."));
+        return format!("the folder `{}`", folder.display());
+    }
+    format!("`{}`", path.display())
+}
+
+impl Graph {
+    /// The advice of an error that this graph is the cause of, such as [`DatesError::advice`], with the paths of what was opened in the
+    /// place of those of most repositories.
+    #[must_use]
+    pub fn advice_with_paths(&self, advice: &str) -> String {
+        naming(advice, &self.paths.iter().map(PathBuf::as_path).collect::<Vec<_>>())
+    }
+}
+
+impl<E> VerifyError<E> {
+    /// What to do, with the commands to type at the top of the repository; empty where that is not known.
+    #[must_use]
+    pub fn advice(&self) -> &'static str {
+        match self {
+            VerifyError::Fault(fault) => fault.advice(),
+            VerifyError::Processor { .. } => "",
+            VerifyError::OutOfMemory => MEMORY,
+        }
+    }
 }
 
 impl DatesError {
     /// What to do, with the commands to type at the top of the repository.
+    #[must_use]
     pub fn advice(&self) -> &'static str {
         match self {
             DatesError::Date { .. } => DATES,
@@ -63,6 +101,7 @@ impl DatesError {
 
 impl ProbeError {
     /// What to do, with the commands to type at the top of the repository; empty where that is not known.
+    #[must_use]
     pub fn advice(&self) -> &'static str {
         match self {
             ProbeError::NoSuchPosition { .. } => "",
@@ -74,6 +113,7 @@ impl ProbeError {
 
 impl Mismatch {
     /// What to do, with the commands to type at the top of the repository.
+    #[must_use]
     pub fn advice(&self) -> &'static str {
         match self {
             Mismatch::OtherContents => OTHER_CONTENTS,
@@ -86,6 +126,7 @@ impl Mismatch {
 
 impl WriteError {
     /// What to do, with the commands to type at the top of the repository; empty where that is not known.
+    #[must_use]
     pub fn advice(&self) -> &'static str {
         match self {
             WriteError::NoIds { .. } => NO_IDS,

@@ -37,6 +37,7 @@ impl ParentBlock {
     }
 
     /// The position of the first of these commits.
+    #[must_use]
     pub fn first(&self) -> Position {
         self.first
     }
@@ -47,6 +48,7 @@ impl ParentBlock {
     }
 
     /// How many commits these are, at least one.
+    #[must_use]
     #[allow(clippy::len_without_is_empty)]
     pub fn len(&self) -> usize {
         self.told().len()
@@ -54,6 +56,7 @@ impl ParentBlock {
 
     /// The parents of each commit, in the order of the commits; or why they cannot be decoded, or not all of them. Where there is
     /// no memory for a block, it is one commit, of which that is told.
+    #[must_use]
     #[inline]
     pub fn iter(&self) -> impl ExactSizeIterator<Item = Result<&[Position], ParentError>> + FusedIterator {
         let mut rest = &self.parents[..];
@@ -87,6 +90,7 @@ impl ParentBlock {
 
 impl Graph {
     /// What the records of the commits say, in the order of their positions.
+    #[must_use]
     pub fn iter_records(&self) -> impl FusedIterator<Item = Record> + '_ {
         (0..self.num_commits()).step_by(BLOCK).fuse().flat_map(|first| self.records_from(first))
     }
@@ -101,11 +105,13 @@ impl Graph {
     }
 
     /// The parents of each commit, in the order of their positions, as [`crate::Commit::parents`] has them.
+    #[must_use]
     pub fn iter_parents(&self) -> impl FusedIterator<Item = Result<Vec<Position>, ParentError>> + '_ {
         self.parent_blocks().flat_map(ParentBlock::into_vectors)
     }
 
     /// The parents of all commits, in blocks: the fastest way to go over them, since nothing is allocated for each commit.
+    #[must_use]
     pub fn parent_blocks(&self) -> impl FusedIterator<Item = ParentBlock> + '_ {
         let mut next = Position(0);
         std::iter::from_fn(move || {

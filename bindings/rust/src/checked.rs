@@ -17,37 +17,65 @@ pub struct Checked {
 
 impl Checked {
     /// Opens the graph at a path, as [`Graph::at`] does, and checks it.
+    ///
+    /// # Errors
+    ///
+    /// Those of [`Graph::at`], and then those of [`Checked::of_graph`].
     pub fn at(path: impl AsRef<Path>) -> Result<Checked, OpenError> {
         Checked::at_with(path, VerifyOptions::default())
     }
 
     /// Opens the graph at a path, as [`Graph::at`] does, and checks it for what the options ask.
+    ///
+    /// # Errors
+    ///
+    /// Those of [`Graph::at`], and then those of [`Checked::of_graph`].
     pub fn at_with(path: impl AsRef<Path>, options: VerifyOptions) -> Result<Checked, OpenError> {
         Checked::of_graph(open(path.as_ref(), Place::Anything)?, options)
     }
 
     /// Opens the graph of one file, and checks it for what the options ask.
+    ///
+    /// # Errors
+    ///
+    /// Those of [`Graph::from_file`], and then those of [`Checked::of_graph`].
     pub fn from_file(path: impl AsRef<Path>, options: VerifyOptions) -> Result<Checked, OpenError> {
         Checked::of_graph(open(path.as_ref(), Place::File)?, options)
     }
 
     /// Opens the graph of an info folder, as [`Graph::from_info_dir`] does, and checks it for what the options ask. Where the
     /// file opens and the check refuses it, the chain is not tried.
+    ///
+    /// # Errors
+    ///
+    /// Those of [`Graph::at`], and then those of [`Checked::of_graph`].
     pub fn from_info_dir(path: impl AsRef<Path>, options: VerifyOptions) -> Result<Checked, OpenError> {
         Checked::of_graph(open(path.as_ref(), Place::InfoFolder)?, options)
     }
 
     /// Opens the graph of a folder with a file `commit-graph-chain`, and checks it for what the options ask.
+    ///
+    /// # Errors
+    ///
+    /// Those of [`Graph::from_commit_graphs_dir`], and then those of [`Checked::of_graph`].
     pub fn from_commit_graphs_dir(path: impl AsRef<Path>, options: VerifyOptions) -> Result<Checked, OpenError> {
         Checked::of_graph(open(path.as_ref(), Place::ChainFolder)?, options)
     }
 
     /// The right graph of layers whose bytes are at hand, each with the path of its file, the lowest first. They are copied.
+    ///
+    /// # Errors
+    ///
+    /// Those of [`Graph::of_bytes`], and then `Check` with the first fault.
     pub fn of_bytes(layers: &[(&[u8], &str)]) -> Result<Checked, OpenError> {
         Checked::of_bytes_with(layers, VerifyOptions::default())
     }
 
     /// The right graph of layers whose bytes are at hand, as by [`Checked::of_bytes`], which keeps what the options ask.
+    ///
+    /// # Errors
+    ///
+    /// Those of [`Checked::of_bytes`].
     pub fn of_bytes_with(layers: &[(&[u8], &str)], options: VerifyOptions) -> Result<Checked, OpenError> {
         let mut counts = [sys::Count::default(); ROOM];
         let (graph, verdict) = Graph::opened(layers, |files, raw, verdict| {
@@ -64,7 +92,8 @@ impl Checked {
     ///
     /// # Errors
     ///
-    /// `Check` with the first fault, for whose commit the files are read once more; or `OutOfMemory`. The graph is dropped then.
+    /// `Check` with the first fault, or `OutOfMemory`. The graph is dropped then. Of a graph whose bytes were copied, the files are read
+    /// once more for the commit that has the fault.
     pub fn of_graph(graph: Graph, options: VerifyOptions) -> Result<Checked, OpenError> {
         Checked::given_back(graph, options, |given, verdict, counts, raw| {
             // SAFETY: `given` is open, and no copy of it is used from here on; `raw` is CG_CLOSED, and the other pointers are
@@ -95,13 +124,19 @@ impl Checked {
         let mut counts = [sys::Count::default(); ROOM];
         let mut verdict = sys::Verdict::default();
         let (mut raw, given, paths) = (sys::CLOSED, graph.raw, std::mem::take(&mut graph.paths));
+        // What the call hands out, and until it has closed the graph the call itself, reads the same bytes.
+        let bytes = std::mem::take(&mut graph.bytes);
         // The call closes it.
         std::mem::forget(graph);
         match check(given, &mut verdict, counts.as_mut_ptr(), &mut raw) {
-            codes::OK => Checked::found_right(Graph::of_raw(raw, paths), options, &verdict, &counts),
+            codes::OK => {
+                let mut graph = Graph::of_raw(raw, paths);
+                graph.bytes = bytes;
+                Checked::found_right(graph, options, &verdict, &counts)
+            }
             codes::OUT_OF_MEMORY => Err(OpenError::OutOfMemory),
             codes::STOPPED => Err(OpenError::Stopped { pos: Position(verdict.position) }),
-            _ => Err(OpenError::Check(refused::of_files(&paths, options, fault_of(&verdict)))),
+            _ => Err(OpenError::Check(refused::of_files(&paths, &bytes, options, fault_of(&verdict)))),
         }
     }
 
@@ -120,27 +155,35 @@ impl Checked {
     }
 
     /// The graph.
+    #[must_use]
     #[inline]
     pub fn graph(&self) -> &Graph {
         &self.graph
     }
 
     /// The graph alone.
+    #[must_use]
     pub fn into_graph(self) -> Graph {
         self.graph
     }
 
     /// What the check was asked for.
+    #[must_use]
     pub fn options(&self) -> VerifyOptions {
         self.options
     }
 
     /// The graph's statistics.
+    #[must_use]
     pub fn outcome(&self) -> &Outcome {
         &self.outcome
     }
 
     /// Looks for a shortest walk along parents from one commit to another, both included.
+    ///
+    /// # Errors
+    ///
+    /// `NoSuchPosition` where a position is none of the graph's; else `OutOfMemory`.
     pub fn ancestor_walk(&self, from: Position, to: Position) -> Result<Reached, QueryError> {
         self.walk_by(from, to, |out, len| {
             // SAFETY: `raw` is open, and there is room for `len` numbers.
@@ -149,6 +192,10 @@ impl Checked {
     }
 
     /// What [`Checked::ancestor_walk`] answers, unless the limit stops the search, which is `Stopped` then.
+    ///
+    /// # Errors
+    ///
+    /// Those of [`Checked::ancestor_walk`], and `Stopped` where the limit stops the search.
     pub fn ancestor_walk_within(&self, from: Position, to: Position, limit: Limit<'_>) -> Result<Reached, QueryError> {
         self.walk_by(from, to, |out, len| {
             // SAFETY: as in `ancestor_walk`; here and below, the limit borrows its flag, which is not freed.
@@ -184,6 +231,10 @@ impl Checked {
 
     /// Whether a commit is an ancestor of another, which then leads to it along parents. A commit is its own ancestor. The order
     /// is that of `git merge-base --is-ancestor`.
+    ///
+    /// # Errors
+    ///
+    /// `NoSuchPosition` where a position is none of the graph's; else `OutOfMemory`.
     #[inline]
     pub fn is_ancestor(&self, ancestor: Position, descendant: Position) -> Result<bool, QueryError> {
         // SAFETY: `raw` is open.
@@ -193,6 +244,10 @@ impl Checked {
     }
 
     /// What [`Checked::is_ancestor`] answers, unless the limit stops the search, which is `Stopped` then.
+    ///
+    /// # Errors
+    ///
+    /// Those of [`Checked::is_ancestor`], and `Stopped` where the limit stops the search.
     pub fn is_ancestor_within(
         &self,
         ancestor: Position,
@@ -207,6 +262,10 @@ impl Checked {
 
     /// Whether the first commit of each pair is an ancestor of the second, as [`Checked::is_ancestor`] answers for one pair. The
     /// memory of the search is filled once for all pairs.
+    ///
+    /// # Errors
+    ///
+    /// The index of the first pair of which a position is none, or on which memory ran out.
     pub fn are_ancestors(&self, pairs: &[(Position, Position)]) -> Result<Vec<bool>, PairError> {
         let no_memory = |_| PairError { index: 0, error: QueryError::OutOfMemory };
         let pair = |&(ancestor, descendant): &(Position, Position)| sys::Pair { ancestor: ancestor.0, descendant: descendant.0 };
@@ -221,6 +280,10 @@ impl Checked {
 
     /// The merge bases of a commit and some others, which `git merge-base --all FIRST OTHERS..` names, the least position
     /// first; and how far the commits have come apart.
+    ///
+    /// # Errors
+    ///
+    /// `NoSuchPosition` where a position is none of the graph's; else `OutOfMemory`.
     pub fn compare(&self, first: Position, others: &[Position]) -> Result<Comparison, QueryError> {
         let (places, count) = (others.as_ptr().cast(), others.len());
         compare_by(|out, len| {
@@ -230,6 +293,10 @@ impl Checked {
     }
 
     /// What [`Checked::compare`] answers, unless the limit stops the search, which is `Stopped` then.
+    ///
+    /// # Errors
+    ///
+    /// Those of [`Checked::compare`], and `Stopped` where the limit stops the search.
     pub fn compare_within(
         &self,
         first: Position,

@@ -17,6 +17,10 @@ pub enum Probe {
 impl Graph {
     /// The corrected commit dates of all commits, in order, in seconds since 1970-01-01 00:00:00 UTC; or `None` where a layer
     /// has none, so that Git reads none of the graph. The dates that are answered are right.
+    ///
+    /// # Errors
+    ///
+    /// The first that holds of [`DatesError`]. `OutOfMemory` may come before the others.
     pub fn corrected_dates(&self) -> Result<Option<Vec<u64>>, DatesError> {
         let mut dates = room_for(0, self.num_commits() as usize)?;
         // SAFETY: `raw` is open, and the pointer and the length are those of a vector.
@@ -31,6 +35,10 @@ impl Graph {
     /// What the filters of the commits at these positions say of a path, whose parts have `/` between them. Git makes a filter
     /// for the paths that a commit changes against its first parent, and the folders that lead to them. Each call reads the
     /// sizes of all filters.
+    ///
+    /// # Errors
+    ///
+    /// The first that holds of [`ProbeError`]. `OutOfMemory` may come before the others.
     pub fn probe_path(&self, path: &[u8], positions: &[Position]) -> Result<Vec<Probe>, ProbeError> {
         let mut out = room_for(0, positions.len())?;
         let (places, count) = (positions.as_ptr().cast(), positions.len());

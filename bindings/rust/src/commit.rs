@@ -40,12 +40,14 @@ impl<'g> Commit<'g> {
     }
 
     /// Its position in the graph.
+    #[must_use]
     #[inline]
     pub fn position(&self) -> Position {
         self.pos
     }
 
     /// Its id.
+    #[must_use]
     #[inline]
     pub fn id(&self) -> ObjectId {
         let mut id = ObjectId { bytes: [0; 32], len: self.graph.id_len as u8 };
@@ -55,6 +57,7 @@ impl<'g> Commit<'g> {
     }
 
     /// The id of its root tree.
+    #[must_use]
     #[inline]
     pub fn root_tree_id(&self) -> ObjectId {
         let mut id = ObjectId { bytes: [0; 32], len: self.graph.id_len as u8 };
@@ -64,6 +67,7 @@ impl<'g> Commit<'g> {
     }
 
     /// The bytes of its id, which are lent from the graph.
+    #[must_use]
     #[inline]
     pub fn id_bytes(&self) -> &'g [u8] {
         let mut lent = sys::NOT_LENT;
@@ -75,6 +79,7 @@ impl<'g> Commit<'g> {
     }
 
     /// The bytes of the id of its root tree, which are lent from the graph.
+    #[must_use]
     #[inline]
     pub fn root_tree_id_bytes(&self) -> &'g [u8] {
         let mut lent = sys::NOT_LENT;
@@ -86,6 +91,7 @@ impl<'g> Commit<'g> {
     }
 
     /// What its record says, but for its ids and its parents, by one call.
+    #[must_use]
     #[inline]
     pub fn record(&self) -> Record {
         let mut told = sys::Commit::default();
@@ -117,6 +123,10 @@ impl<'g> Commit<'g> {
     }
 
     /// The position of its first parent, if it has one. No other parent is read.
+    ///
+    /// # Errors
+    ///
+    /// It cannot be decoded: `SecondWithoutFirst` or `FirstIsEdgeIndex`. Of a [`crate::Checked`] graph it can be.
     #[inline]
     pub fn parent1(&self) -> Result<Option<Position>, ParentError> {
         if let Some(few) = self.known {
@@ -133,6 +143,7 @@ impl<'g> Commit<'g> {
 
     /// The positions of its parents in order, and after them the error that ends their decoding, or that there is no memory for
     /// more, if there is one. No more are read ahead than are already given, or a few.
+    #[must_use]
     #[inline]
     pub fn iter_parents(&self) -> Parents<'g> {
         let (graph, pos) = (self.graph, self.pos);
@@ -154,6 +165,7 @@ impl<'g> Commit<'g> {
     }
 
     /// Its generation number.
+    #[must_use]
     #[inline]
     pub fn generation(&self) -> u32 {
         // SAFETY: `raw` is open.
@@ -161,6 +173,7 @@ impl<'g> Commit<'g> {
     }
 
     /// When it was made: seconds since 1970-01-01 00:00:00 UTC.
+    #[must_use]
     #[inline]
     pub fn committer_timestamp(&self) -> u64 {
         self.record().committer_timestamp

@@ -3,7 +3,7 @@
 use crate::{advice, codes, sys, FileError, GraphError, ObjectId, Position};
 use std::collections::TryReserveError;
 use std::fmt;
-use std::path::PathBuf;
+use std::path::{Path, PathBuf};
 
 /// What the system says where a path names nothing, and where a part of it that should be a folder is none.
 const NO_SUCH_ENTRY: i32 = 2;
@@ -18,7 +18,8 @@ pub(crate) const IS_FOLDER: i32 = 21;
 /// What is said where there is no memory.
 const OUT_OF_MEMORY: &str = "memory ran out";
 
-/// Why no graph was opened.
+/// Why no graph was opened. What the system says of a file that was not read is the source.
+#[derive(Debug)]
 #[non_exhaustive]
 pub enum OpenError {
     /// A file could not be read.
@@ -70,19 +71,33 @@ pub enum OpenError {
 }
 
 impl OpenError {
-    /// What to do, with the commands to type at the top of the repository; empty where that is not known.
-    pub fn advice(&self) -> &'static str {
-        match self {
+    /// What to do, with the commands to type in the repository of what was opened, and the paths of what is to be removed before;
+    /// empty where that is not known.
+    #[must_use]
+    pub fn advice(&self) -> String {
+        let advice = match self {
             OpenError::Io { error, .. } if error.raw_os_error() == Some(READ_FAILED) => advice::READ_FAILED,
             OpenError::Io { error, .. } if error.raw_os_error() == Some(IS_FOLDER) => "name a file in it, or open the folder by `at`",
             OpenError::Io { .. } => advice::NOT_OPENED,
-            OpenError::Neither { file, chain } if file.is_io() && chain.is_io() => chain.advice(),
+            OpenError::Neither { file, chain } if file.is_io() && chain.is_io() => return chain.advice(),
+            OpenError::Neither { file, chain } => return advice::naming(advice::ANEW, &[file.path(), chain.path()]),
             OpenError::Graph { error: GraphError::TooManyCommits, .. } => advice::TOO_MANY_COMMITS,
             OpenError::Graph { path, error: GraphError::NoFiles } if path.as_os_str().is_empty() => "hand in at least one",
-            OpenError::ChainLine { .. } | OpenError::Layer { .. } | OpenError::Graph { .. } | OpenError::Neither { .. } => advice::ANEW,
-            OpenError::Check(error) => error.advice(),
+            OpenError::ChainLine { .. } | OpenError::Layer { .. } | OpenError::Graph { .. } => advice::ANEW,
+            OpenError::Check(error) => return error.advice(),
             OpenError::Stopped { .. } => "",
             OpenError::OutOfMemory => advice::MEMORY,
+        };
+        advice::naming(advice, &[self.path()])
+    }
+
+    /// The path that it is about, which may be empty.
+    fn path(&self) -> &Path {
+        match self {
+            OpenError::Io { path, .. } | OpenError::ChainLine { path, .. } => path,
+            OpenError::Layer { path, .. } | OpenError::Graph { path, .. } => path,
+            OpenError::Check(error) => &error.path,
+            OpenError::Neither { .. } | OpenError::Stopped { .. } | OpenError::OutOfMemory => Path::new(""),
         }
     }
 
@@ -113,36 +128,13 @@ impl OpenError {
     }
 }
 
-/// The same words, with what the system says, since a program that ends with an error shows it so.
-impl fmt::Debug for OpenError {
-    fn fmt(&self, f: &mut fmt::Formatter<'_>) -> fmt::Result {
-        match self {
-            OpenError::Io { error, .. } => write!(f, "{self}: {error}"),
-            _ => write!(f, "{self}"),
-        }
-    }
-}
-
-/// What happened, with the file and the commit of which it speaks, and what to do. What the system says of a file that was not read is
-/// the source.
+/// What happened, with the file and the commit of which it speaks.
 impl fmt::Display for OpenError {
     fn fmt(&self, f: &mut fmt::Formatter<'_>) -> fmt::Result {
-        self.write_happened(f)?;
-        match self {
-            OpenError::Check(_) => Ok(()),
-            OpenError::Io { .. } => write!(f, " (what to do: {})", self.advice()),
-            _ => advice::write_after(f, self.advice()),
-        }
-    }
-}
-
-impl OpenError {
-    /// What happened, alone; but of a check all.
-    fn write_happened(&self, f: &mut fmt::Formatter<'_>) -> fmt::Result {
         match self {
             OpenError::Io { path, .. } => write!(f, "cannot read {}", path.display()),
             OpenError::ChainLine { path, line } => {
-                write!(f, "{}: line {line} of the chain file, counted from 0, is not UTF-8", path.display())
+                write!(f, "{}: line {} of the chain file, counted from 1, is not UTF-8", path.display(), line + 1)
             }
             OpenError::Layer { layer, path, error } if path.as_os_str().is_empty() => write!(f, "layer {layer}: {error}"),
             OpenError::Layer { path, error, .. } => write!(f, "{}: {error}", path.display()),
@@ -160,13 +152,14 @@ impl OpenError {
             OpenError::OutOfMemory => f.write_str(OUT_OF_MEMORY),
         }
     }
+}
 
+impl OpenError {
     /// What happened, where no one above asks for the source.
     fn write_with_source(&self, f: &mut fmt::Formatter<'_>) -> fmt::Result {
-        self.write_happened(f)?;
         match self {
-            OpenError::Io { error, .. } => write!(f, ": {error}"),
-            _ => Ok(()),
+            OpenError::Io { error, .. } => write!(f, "{self}: {error}"),
+            _ => write!(f, "{self}"),
         }
     }
 }
@@ -193,9 +186,10 @@ pub struct CheckError {
 }
 
 impl CheckError {
-    /// What to do, with the commands to type at the top of the repository.
-    pub fn advice(&self) -> &'static str {
-        self.fault.advice()
+    /// What to do, with the commands to type in the repository of the file, and the path of what is to be removed before.
+    #[must_use]
+    pub fn advice(&self) -> String {
+        advice::naming(self.fault.advice(), &[&self.path])
     }
 }
 
@@ -208,7 +202,7 @@ impl fmt::Display for CheckError {
         if let Some(id) = self.id {
             write!(f, "; the commit is {id}")?;
         }
-        advice::write_after(f, self.advice())
+        Ok(())
     }
 }
 
@@ -277,7 +271,8 @@ pub enum Fault {
 }
 
 impl Fault {
-    /// What to do, with the commands to type at the top of the repository.
+    /// What to do, with the commands to type at the top of the repository. [`CheckError::advice`] names the file that was opened.
+    #[must_use]
     pub fn advice(&self) -> &'static str {
         match self {
             Fault::BaseCount { .. } => advice::BASE_COUNT,
@@ -432,10 +427,7 @@ pub enum VerifyError<E> {
 impl<E> fmt::Display for VerifyError<E> {
     fn fmt(&self, f: &mut fmt::Formatter<'_>) -> fmt::Result {
         match self {
-            VerifyError::Fault(fault) => {
-                fault.fmt(f)?;
-                advice::write_after(f, fault.advice())
-            }
+            VerifyError::Fault(fault) => fault.fmt(f),
             VerifyError::Processor { pos, .. } => write!(f, "the processor refused the commit at position {pos}"),
             VerifyError::OutOfMemory => f.write_str(OUT_OF_MEMORY),
         }
@@ -556,14 +548,6 @@ impl DatesError {
 
 impl fmt::Display for DatesError {
     fn fmt(&self, f: &mut fmt::Formatter<'_>) -> fmt::Result {
-        self.write_happened(f)?;
-        advice::write_after(f, self.advice())
-    }
-}
-
-impl DatesError {
-    /// What happened, alone.
-    fn write_happened(&self, f: &mut fmt::Formatter<'_>) -> fmt::Result {
         match self {
             DatesError::DataSize { layer } => write!(f, "layer {layer}: `GDA2` has not four bytes for each commit"),
             DatesError::OverflowSize { layer } => {
@@ -676,14 +660,6 @@ impl ProbeError {
 
 impl fmt::Display for ProbeError {
     fn fmt(&self, f: &mut fmt::Formatter<'_>) -> fmt::Result {
-        self.write_happened(f)?;
-        advice::write_after(f, self.advice())
-    }
-}
-
-impl ProbeError {
-    /// What happened, alone.
-    fn write_happened(&self, f: &mut fmt::Formatter<'_>) -> fmt::Result {
         match self {
             ProbeError::IndexSize { layer } => write!(f, "layer {layer}: `BIDX` has not four bytes for each commit"),
             ProbeError::DataSize { layer } => write!(f, "layer {layer}: `BDAT` has fewer than twelve bytes"),
@@ -812,14 +788,6 @@ impl Mismatch {
 
 impl fmt::Display for Mismatch {
     fn fmt(&self, f: &mut fmt::Formatter<'_>) -> fmt::Result {
-        self.write_happened(f)?;
-        advice::write_after(f, self.advice())
-    }
-}
-
-impl Mismatch {
-    /// What happened, alone.
-    fn write_happened(&self, f: &mut fmt::Formatter<'_>) -> fmt::Result {
         match self {
             Mismatch::OtherContents => f.write_str("the bytes are not those of the commit's id"),
             Mismatch::Unreadable => f.write_str("the bytes are not those of a commit"),

@@ -12,16 +12,19 @@ pub struct ObjectId {
 
 impl ObjectId {
     /// The id of these bytes, or `None` where they are neither 20 nor 32.
+    #[must_use]
     pub fn try_from_bytes(from: &[u8]) -> Option<ObjectId> {
         ObjectId::try_from(from).ok()
     }
 
     /// The id that these hexadecimal digits spell, or `None` where they are neither 40 nor 64 such digits.
+    #[must_use]
     pub fn from_hex(hex: &str) -> Option<ObjectId> {
         hex.parse().ok()
     }
 
     /// Its bytes.
+    #[must_use]
     pub fn as_bytes(&self) -> &[u8] {
         &self.bytes[..self.len as usize]
     }

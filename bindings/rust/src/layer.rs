@@ -45,11 +45,13 @@ impl std::fmt::Debug for Layer<'_> {
 
 impl<'g> Layer<'g> {
     /// The position of its first commit, and of the first commit above it where it has none.
+    #[must_use]
     pub fn first(&self) -> Position {
         Position(self.told.first)
     }
 
     /// The number of its commits.
+    #[must_use]
     pub fn num_commits(&self) -> u32 {
         self.told.num_commits
     }
@@ -60,6 +62,7 @@ impl<'g> Layer<'g> {
     }
 
     /// The checksum that its file ends with. Whether it is that of the bytes, a check says.
+    #[must_use]
     pub fn checksum(&self) -> ObjectId {
         self.graph.id_from(|out, len| {
             // SAFETY: `raw` is open, and the pointer and the length are those of an array.
@@ -92,6 +95,7 @@ impl<'g> Layer<'g> {
     }
 
     /// The checksums of the layers below it, as its file has them. Whether they are right, a check says.
+    #[must_use]
     pub fn base_ids(&self) -> impl ExactSizeIterator<Item = ObjectId> + FusedIterator + 'g {
         let Layer { graph, number, told } = *self;
         (0..told.bases).map(move |index| {
@@ -105,6 +109,7 @@ impl<'g> Layer<'g> {
 
 impl Graph {
     /// The kind of hash of all ids.
+    #[must_use]
     pub fn object_hash(&self) -> Kind {
         match self.id_len {
             20 => Kind::Sha1,
@@ -113,6 +118,7 @@ impl Graph {
     }
 
     /// The number of layers.
+    #[must_use]
     #[inline]
     pub fn num_layers(&self) -> usize {
         // SAFETY: `raw` is open.
@@ -120,6 +126,7 @@ impl Graph {
     }
 
     /// A layer, counted from the lowest, if there is one of this number.
+    #[must_use]
     pub fn layer(&self, number: usize) -> Option<Layer<'_>> {
         let mut told = sys::Layer::default();
         let number = number as u64;
@@ -129,6 +136,7 @@ impl Graph {
     }
 
     /// The layers, the lowest first.
+    #[must_use]
     pub fn layers(&self) -> impl FusedIterator<Item = Layer<'_>> {
         (0..self.num_layers()).filter_map(|number| self.layer(number))
     }

@@ -18,6 +18,7 @@
 
 mod advice;
 mod blocks;
+mod bytes;
 mod checked;
 mod chunks;
 mod codes;
@@ -27,6 +28,7 @@ mod error;
 mod file_error;
 mod id;
 mod layer;
+mod lent;
 mod limit;
 mod many;
 mod open;
@@ -37,6 +39,7 @@ mod verify;
 mod writer;
 
 pub use blocks::{ParentBlock, Record};
+pub use bytes::Bytes;
 pub use checked::{Checked, Comparison, Reached};
 pub use chunks::Probe;
 pub use commit::{Commit, Parents};
@@ -47,6 +50,7 @@ pub use error::{CheckError, Mismatch, VerifyError};
 pub use file_error::{FileError, GraphError};
 pub use id::{IdError, ObjectId};
 pub use layer::{Kind, Layer, LayerOutcome};
+pub use lent::Lent;
 pub use limit::{Flag, Limit};
 use open::open;
 pub use open::{chain_lines, LayerFile, Place};
@@ -78,6 +82,8 @@ pub struct Graph {
     num_commits: u32,
     /// The paths of the files of its layers, which may be empty.
     paths: Vec<PathBuf>,
+    /// The bytes of its layers, where they are lent to `raw`; else none. They are dropped after `raw` is closed.
+    bytes: Vec<Bytes>,
 }
 
 // SAFETY: the calls that take `&Graph` may run at a time (`commitgraph.h`, "Threads"): they only read what it owns, but for the
@@ -100,33 +106,86 @@ impl fmt::Debug for Graph {
 }
 
 impl Graph {
-    /// Opens the graph at a path: a file, a folder with a chain, or an info folder.
+    /// Opens the graph at a path: a file, a folder with a chain, or an info folder. Each file is read once, and its bytes are kept.
+    ///
+    /// # Errors
+    ///
+    /// The first that holds:
+    ///
+    /// 1. `Io`: nothing stands at the path, or a file that is to be read is not there, may not be read, or a read of it failed.
+    /// 2. `ChainLine`: a line of the chain file is not UTF-8.
+    /// 3. `Layer`: the bytes of a layer are refused.
+    /// 4. `Graph`: the layers make no graph.
+    ///
+    /// Of a chain the first line of which 1 to 3 hold is told. Of an info folder the error is that of the chain, where the file is not
+    /// there; that of the file, where the chain is not; and else `Neither`. `OutOfMemory` may come before any of these.
     pub fn at(path: impl AsRef<Path>) -> Result<Graph, OpenError> {
         open(path.as_ref(), Place::Anything)
     }
 
     /// Opens the graph of one file.
+    ///
+    /// # Errors
+    ///
+    /// `Io`, `Layer` and `OutOfMemory` of [`Graph::at`].
     pub fn from_file(path: impl AsRef<Path>) -> Result<Graph, OpenError> {
         open(path.as_ref(), Place::File)
     }
 
     /// Opens the graph of an info folder: its file `commit-graph`, or where that is not there or is refused, the chain in its
     /// folder `commit-graphs`; but not where memory ran out.
+    ///
+    /// # Errors
+    ///
+    /// Those of [`Graph::at`].
     pub fn from_info_dir(path: impl AsRef<Path>) -> Result<Graph, OpenError> {
         open(path.as_ref(), Place::InfoFolder)
     }
 
     /// Opens the graph of a folder with a file `commit-graph-chain`.
+    ///
+    /// # Errors
+    ///
+    /// Those of [`Graph::at`] but for `Neither`.
     pub fn from_commit_graphs_dir(path: impl AsRef<Path>) -> Result<Graph, OpenError> {
         open(path.as_ref(), Place::ChainFolder)
     }
 
-    /// Opens the graph of what a path is taken for, and hands out the files that were read for its layers too, the lowest first.
+    /// Opens the graph of what a path is taken for, and hands out the files that were read for its layers too, the lowest first. Their
+    /// bytes are those that the graph reads: none is copied.
+    ///
+    /// # Errors
+    ///
+    /// Those of [`Graph::at`].
     pub fn open_with_files(path: impl AsRef<Path>, place: Place) -> Result<(Graph, Vec<LayerFile>), OpenError> {
         open::with_files(path.as_ref(), place)
     }
 
+    /// The graph of these files, the lowest layer first, whose bytes it keeps and reads where they are. None is copied.
+    ///
+    /// # Errors
+    ///
+    /// `Layer`, `Graph` or `OutOfMemory`, the first that holds.
+    pub fn of_files(files: Vec<LayerFile>) -> Result<Graph, OpenError> {
+        open::of_files(files)
+    }
+
+    /// The graph of layers whose bytes are lent to it, each with the path of its file, the lowest first. None is copied: so a program
+    /// that maps files opens them where they are.
+    ///
+    /// # Errors
+    ///
+    /// Those of [`Graph::of_files`].
+    pub fn of_lent<'b>(layers: &[(&'b [u8], &str)]) -> Result<Lent<'b, Graph>, OpenError> {
+        // SAFETY: the bytes are borrowed as long as there is a `Lent`, which hands out no graph.
+        unsafe { Graph::lend(layers) }.map(Lent::new)
+    }
+
     /// The graph of layers whose bytes are at hand, each with the path of its file, the lowest first. They are copied.
+    ///
+    /// # Errors
+    ///
+    /// Those of [`Graph::of_files`].
     pub fn of_bytes(layers: &[(&[u8], &str)]) -> Result<Graph, OpenError> {
         Graph::opened(layers, |files, raw, _| {
             // SAFETY: each pointer and length are those of one slice, and none is null; `raw` is CG_CLOSED.
@@ -136,19 +195,36 @@ impl Graph {
     }
 
     /// The graph of layers whose bytes are lent for ever, each with the path of its file, the lowest first. The bytes stay where
-    /// they are, and none is copied: a program that maps a file and never unmaps it may lend it, if nobody changes it.
+    /// they are, and none is copied.
+    ///
+    /// # Errors
+    ///
+    /// Those of [`Graph::of_files`].
     pub fn of_static(layers: &[(&'static [u8], &str)]) -> Result<Graph, OpenError> {
-        Graph::opened(layers, |files, raw, _| {
-            // SAFETY: as in `of_bytes`; and the bytes stay as they are for ever.
+        // SAFETY: the bytes stay as they are for ever.
+        unsafe { Graph::lend(layers) }
+    }
+
+    /// The graph of layers whose bytes are lent to it, each with the path of its file, the lowest first.
+    ///
+    /// # Safety
+    ///
+    /// The bytes lie where they are, and stay as they are, until the graph is dropped.
+    pub(crate) unsafe fn lend(layers: &[(&[u8], &str)]) -> Result<Graph, OpenError> {
+        let (mut graph, _) = Graph::opened(layers, |files, raw, _| {
+            // SAFETY: as in `of_bytes`; and the caller promises that the bytes stay.
             unsafe { sys::cg_open_lent(files.as_ptr(), files.len(), raw) }
-        })
-        .map(|(graph, _)| graph)
+        })?;
+        // SAFETY: the caller promises it.
+        let bytes = layers.iter().map(|(bytes, _)| unsafe { Bytes::lent(bytes) });
+        graph.bytes = collected(bytes).map_err(|_| OpenError::OutOfMemory)?;
+        Ok(graph)
     }
 
     /// The graph that a call has opened, of files at these paths.
     pub(crate) fn of_raw(raw: sys::Graph, paths: Vec<PathBuf>) -> Graph {
         // SAFETY: `raw` is open.
-        unsafe { Graph { id_len: sys::cg_id_len(raw), num_commits: sys::cg_num_commits(raw), raw, paths } }
+        unsafe { Graph { id_len: sys::cg_id_len(raw), num_commits: sys::cg_num_commits(raw), raw, paths, bytes: Vec::new() } }
     }
 
     /// The graph that a call opens, and the verdict that it may write.
@@ -179,12 +255,14 @@ impl Graph {
     }
 
     /// The number of commits.
+    #[must_use]
     #[inline]
     pub fn num_commits(&self) -> u32 {
         self.num_commits
     }
 
     /// The position of an id. A position that is answered holds the id.
+    #[must_use]
     pub fn lookup(&self, id: impl AsRef<[u8]>) -> Option<Position> {
         let id = id.as_ref();
         // SAFETY: here and below, `raw` is open, since only `drop` closes it; and the pointer and the length are those of a slice.
@@ -193,12 +271,14 @@ impl Graph {
     }
 
     /// The commit with an id.
+    #[must_use]
     #[inline]
     pub fn commit_by_id(&self, id: impl AsRef<[u8]>) -> Option<Commit<'_>> {
         Some(Commit::new(self, self.lookup(id)?, None))
     }
 
     /// The commit at a position. Panics where the position is none, as `gix-commitgraph` does.
+    #[must_use]
     #[inline]
     pub fn commit_at(&self, pos: Position) -> Commit<'_> {
         assert!(pos.0 < self.num_commits(), "position {} of {} commits", pos.0, self.num_commits());
@@ -206,18 +286,21 @@ impl Graph {
     }
 
     /// The id at a position. Panics where the position is none.
+    #[must_use]
     #[inline]
     pub fn id_at(&self, pos: Position) -> ObjectId {
         self.commit_at(pos).id()
     }
 
     /// The commits, in order. Their parents are read ahead, those of many commits at a time.
+    #[must_use]
     #[inline]
     pub fn iter_commits(&self) -> impl ExactSizeIterator<Item = Commit<'_>> + FusedIterator {
         Commits::new(self)
     }
 
     /// The ids, in order.
+    #[must_use]
     #[inline]
     pub fn iter_ids(&self) -> impl ExactSizeIterator<Item = ObjectId> + FusedIterator + '_ {
         (0..self.num_commits()).map(|pos| Commit::new(self, Position(pos), None).id())
@@ -230,11 +313,16 @@ fn paths_of(layers: &[(&[u8], &str)]) -> Vec<PathBuf> {
 }
 
 /// Opens the graph at a path.
+///
+/// # Errors
+///
+/// Those of [`Graph::at`].
 pub fn at(path: impl AsRef<Path>) -> Result<Graph, OpenError> {
     Graph::at(path)
 }
 
 /// The version of the library that is linked: 10000 for its first number, 100 for the second and 1 for the third.
+#[must_use]
 pub fn version() -> u32 {
     // SAFETY: nothing is passed.
     unsafe { sys::cg_version() }

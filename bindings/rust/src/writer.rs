@@ -1,7 +1,7 @@
 //! Writing a layer.
 
 use crate::room::{collected, room_for};
-use crate::{advice, codes, sys, Checked, DatesError, Position};
+use crate::{codes, sys, Checked, DatesError, Position};
 use std::collections::TryReserveError;
 use std::fmt;
 
@@ -41,6 +41,7 @@ impl Default for Writer<'_> {
 
 impl Writer<'static> {
     /// For a file that is alone.
+    #[must_use]
     pub fn new() -> Writer<'static> {
         Writer { below: None, ids: Vec::new(), commits: Vec::new() }
     }
@@ -48,16 +49,19 @@ impl Writer<'static> {
 
 impl<'g> Writer<'g> {
     /// For a layer on top of a graph, whose layers are then those below it.
+    #[must_use]
     pub fn on(below: &'g Checked) -> Writer<'g> {
         Writer { below: Some(below), ids: Vec::new(), commits: Vec::new() }
     }
 
     /// The number of commits that were added.
+    #[must_use]
     pub fn len(&self) -> usize {
         self.commits.len()
     }
 
     /// Whether no commit was added.
+    #[must_use]
     pub fn is_empty(&self) -> bool {
         self.commits.is_empty()
     }
@@ -270,18 +274,6 @@ impl WriteError {
 
 impl fmt::Display for WriteError {
     fn fmt(&self, f: &mut fmt::Formatter<'_>) -> fmt::Result {
-        self.write_happened(f)?;
-        match self {
-            // The source says what to do.
-            WriteError::Dates(_) => Ok(()),
-            _ => advice::write_after(f, self.advice()),
-        }
-    }
-}
-
-impl WriteError {
-    /// What happened, alone.
-    fn write_happened(&self, f: &mut fmt::Formatter<'_>) -> fmt::Result {
         match self {
             WriteError::NoIds { commit } => {
                 write!(f, "commit {commit}: an id has neither 20 nor 32 bytes, or another length than the commit's own")

@@ -2,8 +2,9 @@
 
 mod made;
 
-use commitgraph::{CheckError, Checked, Commit, Fault, FileError, Graph, GraphError, IdError, Kind, ObjectId, OpenError, PairError, Position, ProbeError};
-use commitgraph::{DatesError, Flag, LayerFault, Limit, Mismatch, Place, QueryError, VerifyError, VerifyOptions};
+use commitgraph::{Bytes, CheckError, Checked, Commit, Fault, FileError, Graph, GraphError, IdError, Kind, LayerFile, ObjectId};
+use commitgraph::{DatesError, Flag, LayerFault, Limit, Mismatch, OpenError, PairError, Place, Position, ProbeError, QueryError};
+use commitgraph::{VerifyError, VerifyOptions};
 use made::{git, long_lists, made};
 use std::error::Error;
 use std::ffi::OsStr;
@@ -12,6 +13,8 @@ use std::io::Write;
 use std::os::unix::ffi::OsStrExt;
 use std::path::{Path, PathBuf};
 use std::process::Command;
+use std::sync::atomic::{AtomicUsize, Ordering};
+use std::sync::Arc;
 use std::thread;
 
 /// The positions that a check calls its processor on, which refuses the one at `refused`, and what the check answers.
@@ -81,7 +84,15 @@ fn each_opener_opens_what_stands_at_its_path() {
 /// The bytes of the layers at a path, lent for ever, and the paths of their files.
 fn lent(path: &Path) -> Vec<(&'static [u8], String)> {
     let (_, files) = Graph::open_with_files(path, Place::Anything).unwrap();
-    files.into_iter().map(|file| (&*file.bytes.leak(), file.path.to_str().unwrap().to_owned())).collect()
+    files.into_iter().map(|file| (&*file.bytes.to_vec().leak(), file.path.to_str().unwrap().to_owned())).collect()
+}
+
+/// That the last commit's ids lie in these bytes.
+fn reads_in_place(graph: &Graph, bytes: &[u8]) {
+    let last = graph.commit_at(Position(graph.num_commits() - 1));
+    let (id, tree) = (last.id_bytes().as_ptr_range(), last.root_tree_id_bytes().as_ptr_range());
+    let own = bytes.as_ptr_range();
+    assert!(own.contains(&id.start) && own.contains(&tree.start));
 }
 
 #[test]
@@ -90,10 +101,7 @@ fn lent_bytes_are_read_where_they_are() {
         let files = lent(path);
         let layers: Vec<(&'static [u8], &str)> = files.iter().map(|(bytes, path)| (*bytes, &**path)).collect();
         let graph = Graph::of_static(&layers).unwrap();
-        let last = graph.commit_at(Position(graph.num_commits() - 1));
-        let (id, tree) = (last.id_bytes().as_ptr_range(), last.root_tree_id_bytes().as_ptr_range());
-        let own = layers.last().unwrap().0.as_ptr_range();
-        assert!(own.contains(&id.start) && own.contains(&tree.start));
+        reads_in_place(&graph, layers.last().unwrap().0);
         assert_eq!(ids(graph), ids(Graph::at(path).unwrap()));
         let checked = Checked::of_graph(Graph::of_static(&layers).unwrap(), VerifyOptions::default()).unwrap();
         assert_eq!(ids(Graph::at(path).unwrap()), checked.graph().iter_ids().collect::<Vec<_>>());
@@ -105,6 +113,76 @@ fn lent_bytes_are_read_where_they_are() {
     let faulty: &'static [u8] = fs::read(&made().faulty).unwrap().leak();
     let graph = Graph::of_static(&[(faulty, "")]).unwrap();
     assert!(Checked::of_graph(graph, VerifyOptions::default()).is_err());
+}
+
+#[test]
+fn bytes_are_lent_for_as_long_as_they_are_there() {
+    for path in [&made().file, &made().chain] {
+        let (opened, files) = Graph::open_with_files(path, Place::Anything).unwrap();
+        let layers: Vec<_> = files.iter().map(|file| (file.bytes.to_vec(), file.path.to_str().unwrap())).collect();
+        let layers: Vec<(&[u8], &str)> = layers.iter().map(|(bytes, path)| (&bytes[..], *path)).collect();
+        let graph = Graph::of_lent(&layers).unwrap();
+        reads_in_place(&graph, layers.last().unwrap().0);
+        assert!(graph.iter_ids().eq(opened.iter_ids()));
+        let checked = graph.check(VerifyOptions::default()).unwrap();
+        reads_in_place(checked.graph(), layers.last().unwrap().0);
+        assert_eq!(checked.outcome(), Checked::at(path).unwrap().outcome());
+    }
+    let bytes = fs::read(&made().faulty).unwrap();
+    let wanted = Checked::of_bytes(&[(&bytes, "")]).unwrap_err();
+    let refused = Graph::of_lent(&[(&bytes, "")]).unwrap().check(VerifyOptions::default()).unwrap_err();
+    assert!(matches!((&refused, &wanted), (OpenError::Check(one), OpenError::Check(other)) if one == other), "{refused}");
+    assert!(matches!(Graph::of_lent(&[(&bytes[1..], "")]), Err(OpenError::Layer { layer: 0, .. })));
+}
+
+/// The owner of some bytes, which counts how often it was asked for them, and was dropped.
+struct Owner {
+    bytes: Vec<u8>,
+    asked: Arc<AtomicUsize>,
+    dropped: Arc<AtomicUsize>,
+}
+
+impl AsRef<[u8]> for Owner {
+    fn as_ref(&self) -> &[u8] {
+        self.asked.fetch_add(1, Ordering::SeqCst);
+        &self.bytes
+    }
+}
+
+impl Drop for Owner {
+    fn drop(&mut self) {
+        self.bytes.fill(0xff);
+        self.dropped.fetch_add(1, Ordering::SeqCst);
+    }
+}
+
+#[test]
+fn an_owner_is_kept_as_long_as_its_bytes_are_read() {
+    let (asked, dropped) = (Arc::new(AtomicUsize::new(0)), Arc::new(AtomicUsize::new(0)));
+    let counts = || (asked.load(Ordering::SeqCst), dropped.swap(0, Ordering::SeqCst));
+    let file = |bytes: Vec<u8>, path: &Path| {
+        asked.store(0, Ordering::SeqCst);
+        let owner = Owner { bytes, asked: asked.clone(), dropped: dropped.clone() };
+        vec![LayerFile { path: path.to_owned(), bytes: Bytes::of_owner(owner) }]
+    };
+    let (path, bytes) = (&made().file, fs::read(&made().file).unwrap());
+    let files = file(bytes.clone(), path);
+    let graph = Graph::of_files(files.clone()).unwrap();
+    reads_in_place(&graph, &files[0].bytes);
+    drop(files);
+    let checked = Checked::try_from(graph).unwrap();
+    assert_eq!(counts(), (1, 0));
+    assert_eq!(ids(checked.into_graph()), ids(Graph::at(path).unwrap()));
+    assert_eq!(counts(), (1, 1));
+    assert!(matches!(Graph::of_files(file(bytes[1..].to_vec(), path)), Err(OpenError::Layer { path: told, .. }) if told == *path));
+    assert_eq!(counts(), (1, 1));
+    let faulty = Graph::of_files(file(fs::read(&made().faulty).unwrap(), Path::new("no/such/file"))).unwrap();
+    let refused = Checked::try_from(faulty).unwrap_err();
+    assert!(matches!(&refused, OpenError::Check(CheckError { id: Some(_), .. })), "{refused}");
+    assert_eq!(counts(), (1, 1));
+    for bytes in [Bytes::from(bytes.clone()), bytes.clone().into_boxed_slice().into(), Arc::<[u8]>::from(&bytes[..]).into()] {
+        assert_eq!(ids(Graph::of_files(vec![LayerFile { path: path.clone(), bytes }]).unwrap()), ids(Graph::at(path).unwrap()));
+    }
 }
 
 #[test]
@@ -181,19 +259,20 @@ fn what_is_refused_is_told() {
     assert!(matches!(refused(&[]), OpenError::Graph { error: GraphError::NoFiles, .. }));
     let short = refused(&[(&bytes, ""), (b"CGPH", ""), (b"", "")]);
     assert!(matches!(short, OpenError::Layer { layer: 1, error: FileError::TooShort, .. }));
-    let says = |error: &OpenError, happened: &str| {
-        assert_eq!(error.to_string(), format!("{happened}; what to do: {}", error.advice()));
-        assert!(error.advice().ends_with("`git commit-graph write --reachable`, with `--changed-paths` if it had filters"));
-    };
-    says(&short, "layer 1: the file has fewer than 1100 bytes: often it is truncated");
+    assert_eq!(short.to_string(), "layer 1: the file has fewer than 1100 bytes: often it is truncated");
+    assert!(short.advice().contains(", and then run `git commit-graph write --reachable`"), "{}", short.advice());
     let named = refused(&[(b"CGPH", "a/graph-b.graph")]);
-    says(&named, "a/graph-b.graph: the file has fewer than 1100 bytes: often it is truncated");
-    assert_eq!(refused(&[]).to_string(), "no layer is handed in; what to do: hand in at least one");
+    assert_eq!(named.to_string(), "a/graph-b.graph: the file has fewer than 1100 bytes: often it is truncated");
+    assert!(named.advice().starts_with("remove the folder `a`, and then run `git commit-graph write --reachable`"), "{}", named.advice());
+    let alone = refused(&[(b"CGPH", "a/b")]);
+    assert!(alone.advice().starts_with("remove `a/b`, and then run `git commit-graph write --reachable`"), "{}", alone.advice());
+    assert_eq!((refused(&[]).to_string(), refused(&[]).advice()), ("no layer is handed in".into(), "hand in at least one".into()));
     let missing = Graph::from_file("no/such/file").unwrap_err();
-    assert!(missing.to_string().starts_with("cannot read no/such/file (what to do: `git commit-graph write --reachable` makes"));
+    assert_eq!(missing.to_string(), "cannot read no/such/file");
+    assert!(missing.advice().starts_with("`git commit-graph write --reachable` makes a commit-graph"));
     assert!(missing.source().is_some_and(|source| source.is::<std::io::Error>()) && refused(&[]).source().is_none());
     let folder = Graph::from_file(made().file.parent().unwrap()).unwrap_err();
-    assert!(folder.to_string().ends_with(" (what to do: name a file in it, or open the folder by `at`)"), "{folder}");
+    assert_eq!(folder.advice(), "name a file in it, or open the folder by `at`");
 }
 
 #[test]
@@ -222,8 +301,9 @@ fn a_fault_names_the_file_and_the_commit() {
         assert!(matches!(&error, OpenError::Check(told) if *told == wanted), "{error}");
         let text = error.to_string();
         assert!(text.starts_with(&format!("{}: the commit at position {pos}: its generation number ", faulty.display())), "{text}");
-        assert!(text.ends_with(&format!("; the commit is {}; what to do: {}", wanted.id.unwrap(), error.advice())), "{text}");
-        assert_eq!(format!("{error:?}"), text);
+        assert!(text.ends_with(&format!("; the commit is {}", wanted.id.unwrap())), "{text}");
+        assert!(error.advice().starts_with(&format!("remove `{}`, and then run ", faulty.display())), "{}", error.advice());
+        assert!(format!("{error:?}").starts_with("Check(CheckError { fault: Generation { pos: Position("), "{error:?}");
     }
     let folder = folder("changed");
     let file = folder.join("commit-graph");
@@ -249,7 +329,8 @@ fn a_fault_in_a_chain_names_the_layer() {
     assert!(matches!(&error, OpenError::Check(told) if told.path == second), "{error}");
     fs::write(&chain, "").unwrap();
     let error = Graph::from_commit_graphs_dir(&folder).unwrap_err();
-    assert!(error.to_string().starts_with(&format!("{}: the chain file names no layer; ", chain.display())), "{error}");
+    assert_eq!(error.to_string(), format!("{}: the chain file names no layer", chain.display()));
+    assert!(error.advice().starts_with(&format!("remove the folder `{}`, and then run ", folder.display())), "{}", error.advice());
 }
 
 #[test]
@@ -307,18 +388,23 @@ fn each_error_is_a_sentence() {
     let sentences: [(&dyn Error, &str); 9] = [
         (&Fault::Generation { pos, expected: 3 }, "position 7: its generation number is not 3, one more than"),
         (&checksum, "layer 2: the checksum is not the digest of its bytes"),
-        (&VerifyError::<QueryError>::Fault(checksum), ": they were changed or lost; what to do: check the disk, "),
+        (&VerifyError::<QueryError>::Fault(checksum), "the checksum is not the digest of its bytes: they were changed or lost"),
         (&Fault::BaseId { layer: 2, index: 1 }, "base id 1 of layer 2 is not the checksum of layer 1"),
-        (&DatesError::TooLarge { pos }, "position 7: the date of the commit is 2^63 or more; what to do: remove `.git/"),
-        (&ProbeError::Version { layer: 1, version: 3 }, "the version of the hash is 3, and neither 1 nor 2; what to do: write it anew,"),
+        (&DatesError::TooLarge { pos }, "position 7: the date of the commit is 2^63 or more"),
+        (&ProbeError::Version { layer: 1, version: 3 }, "the version of the hash is 3, and neither 1 nor 2"),
         (&QueryError::OutOfMemory, "memory ran out"),
         (&VerifyError::Processor { pos, error: QueryError::OutOfMemory }, "the processor refused the commit at position 7"),
         (&"0".parse::<ObjectId>().unwrap_err(), "an id has 20 or 32 bytes, or 40 or 64 hexadecimal digits"),
     ];
     for (error, words) in sentences {
-        assert!(error.to_string().contains(words), "{error}");
+        assert!(error.to_string().contains(words) && !error.to_string().contains("what to do"), "{error}");
         assert!(error.source().map_or(true, |source| !error.to_string().contains(&source.to_string())), "{error}");
     }
+    let graph = Graph::at(&made().chain).unwrap();
+    let advice = DatesError::TooLarge { pos }.advice();
+    let named = format!("remove the folder `{}`, and then run `git commit-graph write --reachable`", made().chain.display());
+    assert!(advice.starts_with("remove ") && graph.advice_with_paths(advice).starts_with(&named), "{}", graph.advice_with_paths(advice));
+    assert!(VerifyError::<QueryError>::Fault(checksum).advice().starts_with("check the disk, "));
 }
 
 #[test]
@@ -375,9 +461,11 @@ fn neither_refusal_of_an_info_folder_hides_the_other() {
         panic!("{error}");
     };
     for part in [file, chain] {
-        assert!(error.to_string().contains(part.to_string().split("; what to do: ").next().unwrap()), "{error}");
+        assert!(error.to_string().contains(&part.to_string()), "{error}");
     }
-    assert_eq!(error.to_string().matches("what to do: ").count(), 1);
+    let (file, chain) = (folder.join("commit-graph"), folder.join("commit-graphs"));
+    let both = format!("remove `{}` and the folder `{}`, and then run ", file.display(), chain.display());
+    assert!(error.advice().starts_with(&both), "{}", error.advice());
     fs::remove_file(folder.join("commit-graph")).unwrap();
     assert!(matches!(opened(), OpenError::Graph { error: GraphError::NoFiles, .. }));
     // What neither path leads to is not there to be removed.
@@ -385,19 +473,56 @@ fn neither_refusal_of_an_info_folder_hides_the_other() {
     assert!(error.advice().contains("check permissions") && !error.advice().starts_with("remove"), "{error}");
 }
 
+/// A named pipe that has these bytes once: it is gone as soon as it was opened.
+fn pipe_of(path: PathBuf, bytes: Vec<u8>) -> thread::JoinHandle<()> {
+    assert!(Command::new("mkfifo").arg(&path).status().unwrap().success());
+    thread::spawn(move || {
+        let mut file = OpenOptions::new().write(true).open(&path).unwrap();
+        fs::remove_file(&path).unwrap();
+        file.write_all(&bytes).unwrap();
+    })
+}
+
+#[test]
+fn each_file_of_a_chain_is_read_once() {
+    let folder = folder("lines").join("commit-graphs");
+    fs::write(folder.join("commit-graph-chain"), "a\nb\n".repeat(200)).unwrap();
+    fs::copy(&made().file, folder.join("graph-b.graph")).unwrap();
+    let written = pipe_of(folder.join("graph-a.graph"), fs::read(&made().file).unwrap());
+    let (graph, files) = Graph::open_with_files(&folder, Place::ChainFolder).unwrap();
+    written.join().unwrap();
+    assert_eq!((graph.num_layers(), graph.num_commits()), (400, 400 * Graph::at(&made().file).unwrap().num_commits()));
+    assert!(files.chunks(2).all(|pair| pair[0].path.ends_with("graph-a.graph") && pair[1].path.ends_with("graph-b.graph")));
+    assert_eq!(files[398].bytes.as_ptr(), files[0].bytes.as_ptr());
+    let refused = Checked::try_from(graph).unwrap_err();
+    let chain = folder.join("commit-graph-chain");
+    assert!(matches!(&refused, OpenError::Check(CheckError { fault: Fault::TooManyFiles, path, .. }) if *path == chain), "{refused}");
+}
+
+#[test]
+fn the_first_line_of_a_chain_that_is_refused_is_told() {
+    let folder = folder("refused-lines").join("commit-graphs");
+    fs::copy(&made().file, folder.join("graph-a.graph")).unwrap();
+    fs::write(folder.join("graph-b.graph"), b"CGPH").unwrap();
+    fs::create_dir_all(folder.join("graph-f.graph")).unwrap();
+    let opened = |text: &[u8]| {
+        fs::write(folder.join("commit-graph-chain"), text).unwrap();
+        Graph::from_commit_graphs_dir(&folder).unwrap_err()
+    };
+    let is_layer = |error: &OpenError, number| matches!(error, OpenError::Layer { layer, error: FileError::TooShort, .. } if *layer == number);
+    assert!(is_layer(&opened(b"a\nb\nc\n"), 1) && is_layer(&opened(b"b\n\xff\n"), 0) && is_layer(&opened(b"a\na\nb\nb"), 2));
+    assert!(matches!(opened(b"a\nc\nb\n"), OpenError::Io { path, .. } if path == folder.join("graph-c.graph")));
+    assert!(matches!(opened(b"a\nf\nb\n"), OpenError::Io { path, .. } if path == folder.join("graph-f.graph")));
+    let line = opened(b"a\na\n\xff\nb\n");
+    assert!(matches!(&line, OpenError::ChainLine { line: 2, path } if *path == folder.join("commit-graph-chain")));
+    assert!(line.to_string().ends_with(": line 3 of the chain file, counted from 1, is not UTF-8"), "{line}");
+}
+
 #[test]
 fn the_file_of_an_info_folder_is_read_once() {
     let folder = folder("read-once");
     let pipe = folder.join("commit-graph");
-    assert!(Command::new("mkfifo").arg(&pipe).status().unwrap().success());
-    let written = thread::spawn({
-        let pipe = pipe.clone();
-        move || {
-            let mut file = OpenOptions::new().write(true).open(&pipe).unwrap();
-            fs::remove_file(&pipe).unwrap();
-            file.write_all(b"CGPH").unwrap();
-        }
-    });
+    let written = pipe_of(pipe.clone(), b"CGPH".to_vec());
     let error = Graph::from_info_dir(&folder).unwrap_err();
     written.join().unwrap();
     assert!(matches!(&error, OpenError::Layer { path, error: FileError::TooShort, .. } if *path == pipe), "{error}");
@@ -463,7 +588,7 @@ fn the_files_of_the_layers_are_handed_out() {
         let (graph, files) = Graph::open_with_files(path, place).unwrap();
         assert_eq!(files.len(), graph.num_layers());
         for (layer, file) in graph.layers().zip(&files) {
-            assert_eq!(fs::read(&file.path).unwrap(), file.bytes);
+            assert_eq!(fs::read(&file.path).unwrap(), *file.bytes);
             assert!(file.bytes.ends_with(layer.checksum().as_bytes()));
         }
     }

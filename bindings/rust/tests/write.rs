@@ -58,7 +58,7 @@ fn each_layer_of_a_chain_is_as_git_writes_it() {
         let layers: Vec<_> = files[..number].iter().map(|file| (&file.bytes[..], "")).collect();
         let below = (number > 0).then(|| Checked::of_bytes(&layers).unwrap());
         let writer = below.as_ref().map_or(Writer::new(), Writer::on);
-        assert_eq!(written(writer, &handed).as_ref(), Ok(&files[number].bytes));
+        assert_eq!(written(writer, &handed).as_deref(), Ok(&*files[number].bytes));
     }
 }
 
@@ -84,7 +84,7 @@ fn each_refusal_names_its_commit() {
             }
             assert_eq!(writer.write(), Err(wanted));
         }
-        assert!(wanted.source().is_none() && wanted.to_string().ends_with(&format!("; what to do: {}", wanted.advice())));
+        assert!(wanted.source().is_none() && !wanted.advice().is_empty() && !wanted.to_string().contains("what to do"));
     }
     let mut writer = Writer::on(&below);
     writer.add(id(1), id(9), [first], 5).unwrap();
@@ -98,8 +98,8 @@ fn each_refusal_names_its_commit() {
     writer.add(first, id(9), none, 5).unwrap();
     assert_eq!(writer.write(), Err(WriteError::Below { commit: 0, pos: Position(0) }));
     let wrong = WriteError::Dates(DatesError::DataSize { layer: 1 });
-    let why = wrong.source().unwrap().to_string();
-    assert!(why.starts_with("layer 1: `GDA2` has not four bytes for each commit; what to do: remove `.git/"), "{why}");
+    assert_eq!(wrong.source().unwrap().to_string(), "layer 1: `GDA2` has not four bytes for each commit");
+    assert!(wrong.advice().starts_with("remove "));
 }
 
 #[test]

@@ -1,5 +1,6 @@
 //! Why a call has no answer.
 
+use commitgraph::{CheckError, OpenError};
 use std::convert::Infallible;
 use std::fmt;
 
@@ -8,13 +9,22 @@ pub struct Error(Box<dyn std::error::Error + Send + Sync>);
 
 impl Error {
     /// The error of a cause, or of a text.
+    #[must_use]
     pub fn new(cause: impl Into<Box<dyn std::error::Error + Send + Sync>>) -> Error {
         Error(cause.into())
     }
 
     /// The cause: one of the errors of `nolavimure-commitgraph`, or what a processor has answered.
+    #[must_use]
     pub fn get_ref(&self) -> &(dyn std::error::Error + Send + Sync + 'static) {
         &*self.0
+    }
+
+    /// What to do, with the commands to type in the repository of what was opened; empty where that is not known.
+    #[must_use]
+    pub fn advice(&self) -> String {
+        let opening = self.0.downcast_ref().map(OpenError::advice);
+        opening.or_else(|| self.0.downcast_ref().map(CheckError::advice)).unwrap_or_default()
     }
 }
 
@@ -53,4 +63,4 @@ macro_rules! from_cause {
 }
 
 from_cause!(&str, String, fmt::Error, std::io::Error);
-from_cause!(commitgraph::OpenError, commitgraph::ParentError, commitgraph::VerifyError<Infallible>);
+from_cause!(OpenError, commitgraph::ParentError, commitgraph::VerifyError<Infallible>);

@@ -2,53 +2,65 @@
 
 use crate::file::Commit;
 use crate::{file, Error, Position};
-use commitgraph::{LayerFile, Place};
+use commitgraph::{Bytes, LayerFile, Place};
 use gix_hash::oid;
+use std::collections::TryReserveError;
+use std::mem::size_of;
+use std::ops::Range;
 use std::path::{Path, PathBuf};
 
 /// Some layers, and the graph that they make.
 pub(crate) struct Layers {
     pub(crate) graph: commitgraph::Graph,
     pub(crate) all: Vec<Layer>,
+    /// The position of the first commit of each, side by side, since each lookup of a position reads some of them.
+    starts: Vec<u32>,
     pub(crate) kind: gix_hash::Kind,
 }
 
 /// A layer: its file, and where in its bytes ids and records stand.
 pub(crate) struct Layer {
     path: PathBuf,
-    bytes: Vec<u8>,
+    bytes: Bytes,
     first: u32,
     commits: u32,
     ids: usize,
     records: usize,
     base_ids: usize,
+    edges: Range<usize>,
     id_len: usize,
 }
 
-/// The bytes of a record, besides its root tree: two fields for parents, and the generation number and the time.
-const FIELDS: usize = 16;
+/// The bytes of a record, besides its root tree: two words for parents, and then the generation number and the time ("Commit Data").
+pub(crate) type Fields = [u8; 16];
+
+/// Of at most so many layers the starts are counted.
+const FEW: usize = 16;
 
 impl Layers {
-    /// The layers of a graph that was opened of these files, the lowest first.
-    pub(crate) fn of(graph: commitgraph::Graph, files: Vec<LayerFile>) -> Result<Layers, Error> {
+    /// The layers of a graph that was opened of these files, the lowest first. What the graph tells of one layer by its number takes a
+    /// step for each layer below it, so that their sizes are read from the files.
+    fn of(graph: commitgraph::Graph, files: Vec<LayerFile>) -> Result<Layers, Error> {
         let (number, id_len) = match graph.object_hash() {
             commitgraph::Kind::Sha1 => (1, 20),
             _ => (2, 32),
         };
         let kind = gix_hash::Kind::try_from(number).map_err(|_| Error::from("ids of SHA-256 need the feature `sha256`"))?;
-        let places = graph.layers().map(|layer| (layer.first().0, layer.num_commits()));
-        let all = files.into_iter().zip(places).map(|(file, place)| Layer::of(file, place, id_len)).collect();
-        Ok(Layers { graph, all, kind })
+        let mut first = 0;
+        let mut next = |file| {
+            let layer = Layer::of(file, first, id_len);
+            first += layer.commits;
+            layer
+        };
+        let all: Vec<_> = files.into_iter().map(&mut next).collect();
+        debug_assert_eq!(first, graph.num_commits());
+        let starts = all.iter().map(|layer| layer.first).collect();
+        Ok(Layers { graph, all, starts, kind })
     }
 
     /// The layers of these files, the lowest first.
     pub(crate) fn of_files(files: Vec<LayerFile>) -> Result<Layers, Error> {
-        let graph = {
-            let names: Vec<_> = files.iter().map(|file| file.path.to_string_lossy()).collect();
-            let lent: Vec<_> = files.iter().zip(&names).map(|(file, name)| (&file.bytes[..], &**name)).collect();
-            commitgraph::Graph::of_bytes(&lent)?
-        };
-        Layers::of(graph, files)
+        Layers::of(commitgraph::Graph::of_files(files.clone())?, files)
     }
 
     /// What is opened at a path.
@@ -58,12 +70,8 @@ impl Layers {
     }
 
     /// The commits, in the order of their positions.
-    pub(crate) fn commits(&self) -> impl ExactSizeIterator<Item = Commit<'_>> {
-        let mut layers = self.all.iter().flat_map(Layer::positions);
-        self.graph.iter_commits().map(move |commit| {
-            let (layer, pos) = layers.next().expect("the layers have all commits");
-            Commit::new(layer, pos, commit)
-        })
+    pub(crate) fn commits(&self) -> impl Iterator<Item = Commit<'_>> {
+        self.all.iter().flat_map(Layer::positions).map(|(layer, pos)| Commit::new(&self.graph, layer, pos))
     }
 
     /// The ids, in the order of their positions.
@@ -71,23 +79,36 @@ impl Layers {
         self.all.iter().flat_map(Layer::positions).map(|(layer, pos)| layer.id_at(pos))
     }
 
+    /// How many layers begin at a position or before. A few are counted without a branch that depends on the position, which costs less
+    /// than to search them by halves.
+    #[inline]
+    fn begun(&self, pos: Position) -> usize {
+        if self.starts.len() <= FEW {
+            return self.starts.iter().filter(|first| **first <= pos.0).count();
+        }
+        self.starts.partition_point(|first| *first <= pos.0)
+    }
+
     /// The layer of a position, and the position there. Panics where it is none of the graph's.
+    #[inline]
     pub(crate) fn place(&self, pos: Position) -> (&Layer, file::Position) {
-        let after = self.all.partition_point(|layer| layer.first <= pos.0);
-        let found = self.all[..after].iter().rev().find(|layer| pos.0 - layer.first < layer.commits);
-        match found {
-            Some(layer) => (layer, file::Position(pos.0 - layer.first)),
-            None => panic!("position {pos} of {} commits", self.graph.num_commits()),
+        // The last layer that begins there or before has it: an empty one begins where the next one does.
+        match self.all[..self.begun(pos)].last() {
+            Some(layer) if pos.0 - layer.first < layer.commits => (layer, file::Position(pos.0 - layer.first)),
+            _ => panic!("position {pos} of {} commits", self.graph.num_commits()),
         }
     }
 }
 
 impl Layer {
-    /// The layer of a file, with the position of its first commit and their number.
-    fn of(file: LayerFile, (first, commits): (u32, u32), id_len: usize) -> Layer {
-        let at = |id| chunk(&file.bytes, id).unwrap_or(0);
-        let (ids, records, base_ids) = (at(b"OIDL"), at(b"CDAT"), at(b"BASE"));
-        Layer { path: file.path, bytes: file.bytes, first, commits, ids, records, base_ids, id_len }
+    /// The layer of a file that was opened, with the position of its first commit.
+    fn of(file: LayerFile, first: u32, id_len: usize) -> Layer {
+        let at = |id| chunk(&file.bytes, id).unwrap_or(0..0);
+        let (fan, edges) = (at(b"OIDF"), at(b"EDGE"));
+        let (ids, records, base_ids) = (at(b"OIDL").start, at(b"CDAT").start, at(b"BASE").start);
+        // The last number of the fan counts all ids ("OID Fanout").
+        let commits = word(&file.bytes, fan.end - 4);
+        Layer { path: file.path, bytes: file.bytes, first, commits, ids, records, base_ids, edges, id_len }
     }
 
     pub(crate) fn into_file(self) -> LayerFile {
@@ -125,10 +146,26 @@ impl Layer {
         self.id(self.record(pos))
     }
 
-    /// The two words of the record at a position that tell of parents.
-    pub(crate) fn edges_at(&self, pos: file::Position) -> [u32; 2] {
-        let start = self.record(pos) + self.id_len;
-        [start, start + 4].map(|at| u32::from_be_bytes(self.bytes[at..at + 4].try_into().expect("four bytes")))
+    /// The record of the commit at a position, but for the root tree.
+    #[inline]
+    pub(crate) fn fields_at(&self, pos: file::Position) -> &Fields {
+        self.bytes[self.record(pos) + self.id_len..].first_chunk().expect("a record has them")
+    }
+
+    /// For each word of the extra edge list, how many words the list has that begins with it, by one pass from the end ("Extra Edge
+    /// List"). Of a list that runs past the end, which no right file names, its words are counted.
+    pub(crate) fn list_lengths(&self) -> Result<Vec<u32>, TryReserveError> {
+        let words = self.bytes[self.edges.clone()].chunks_exact(4).rev();
+        let mut lengths = Vec::new();
+        lengths.try_reserve_exact(words.len())?;
+        let mut length = 0;
+        lengths.extend(words.map(|word| {
+            let is_last = word[0] >= 0x80;
+            length = if is_last { 1 } else { length + 1 };
+            length
+        }));
+        lengths.reverse();
+        Ok(lengths)
     }
 
     /// The ids of the layers below, as the file has them.
@@ -142,8 +179,9 @@ impl Layer {
     }
 
     /// Where the record at a position begins.
+    #[inline]
     fn record(&self, pos: file::Position) -> usize {
-        self.records + pos.0 as usize * (self.id_len + FIELDS)
+        self.records + pos.0 as usize * (self.id_len + size_of::<Fields>())
     }
 
     /// The id that begins at a byte of the file.
@@ -152,9 +190,15 @@ impl Layer {
     }
 }
 
-/// Where a chunk begins, by the table of chunks of a file that was opened.
-fn chunk(bytes: &[u8], id: &[u8; 4]) -> Option<usize> {
-    let table = &bytes[8..][..12 * usize::from(bytes[6])];
-    let entry = table.chunks(12).find(|entry| &entry[..4] == id)?;
-    Some(u64::from_be_bytes(entry[4..].try_into().expect("eight bytes")) as usize)
+/// Where a chunk lies, by the table of chunks of a file that was opened: it ends where the next one begins ("Chunk Lookup").
+fn chunk(bytes: &[u8], id: &[u8; 4]) -> Option<Range<usize>> {
+    let entry = |number: usize| bytes[8 + 12 * number..].first_chunk::<12>().expect("an entry of the table");
+    let start = |number| u64::from_be_bytes(*entry(number).last_chunk().expect("eight bytes")) as usize;
+    let found = (0..usize::from(bytes[6])).find(|&number| entry(number).starts_with(id))?;
+    Some(start(found)..start(found + 1))
+}
+
+/// The word that begins at a byte of a file.
+fn word(bytes: &[u8], at: usize) -> u32 {
+    u32::from_be_bytes(bytes[at..at + 4].try_into().expect("four bytes"))
 }

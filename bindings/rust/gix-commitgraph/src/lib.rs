@@ -1,7 +1,8 @@
 //! Read, check and walk Git's commit-graphs, with the names and signatures of `gix-commitgraph` 0.39.0, over proved code.
 //!
-//! Ids and trees are lent from the bytes of the files, and so are the base ids and the checksum. All else is asked of the
-//! library behind `nolavimure-commitgraph`.
+//! The library behind `nolavimure-commitgraph`, whose code is proved, opens the files, checks them, looks up ids, and tells the
+//! parents of a commit that its record has not all, or has wrong. What stands at a place of a file that it has opened is read there by
+//! this crate, which is not proved: ids, trees, times, generation numbers, up to two parents, base ids and the checksum.
 
 #![deny(missing_docs, unsafe_code)]
 
@@ -28,6 +29,10 @@ pub struct Graph {
 }
 
 /// Opens the graph at a path: that of an info folder, of a folder with a chain, or of a file.
+///
+/// # Errors
+///
+/// As of [`Graph::at`].
 pub fn at(path: impl AsRef<Path>) -> Result<Graph, Error> {
     Graph::at(path.as_ref())
 }

@@ -1,7 +1,7 @@
 //! The check of a graph, and its statistics.
 
 use crate::{file, Error, Graph};
-use commitgraph::VerifyError;
+use commitgraph::{OpenError, VerifyError};
 use std::collections::BTreeMap;
 
 /// The statistics of a graph that was found right.
@@ -17,8 +17,11 @@ pub struct Outcome {
 }
 
 impl Graph {
-    /// Checks the graph, and calls the processor on its commits, in the order of their positions, up to the first fault. The error
-    /// is the first fault, or before it the first error of the processor.
+    /// Checks the graph, and calls the processor on its commits, in the order of their positions, up to the first fault.
+    ///
+    /// # Errors
+    ///
+    /// The first fault, or before it the first error of the processor; or that memory ran out.
     pub fn verify_integrity<E>(&self, mut processor: impl FnMut(&file::Commit<'_>) -> Result<(), E>) -> Result<Outcome, Error>
     where
         E: std::error::Error + Send + Sync + 'static,
@@ -32,7 +35,7 @@ impl Graph {
             }),
             Err(VerifyError::Processor { error, .. }) => Err(Error::new(error)),
             Err(VerifyError::Fault(fault)) => Err(Error::new(self.layers.graph.check_error(fault))),
-            Err(error) => Err(Error::new(error.to_string())),
+            Err(_) => Err(OpenError::OutOfMemory.into()),
         }
     }
 }

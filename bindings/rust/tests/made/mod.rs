@@ -6,6 +6,7 @@ use std::io::Write;
 use std::path::{Path, PathBuf};
 use std::process::{Command, Stdio};
 use std::sync::OnceLock;
+use std::time::Duration;
 
 /// The commit-graphs of one build.
 pub struct Made {
@@ -116,9 +117,20 @@ fn checksum_of(bytes: &[u8]) -> Vec<u8> {
 /// A file of so many commits that all have position 0 as their first parent, and share one list of as many others, from
 /// position 1 on and then position 0. Its generation numbers are wrong.
 pub fn long_lists(commits: u32) -> Vec<u8> {
+    lists(commits, |_| 0)
+}
+
+/// The same, but that the list of each commit begins one word behind that of the commit before it, and all end together.
+pub fn nested_lists(commits: u32) -> Vec<u8> {
+    lists(commits, |number| number)
+}
+
+/// A file of so many commits, whose generation numbers are wrong: each has position 0 as its first parent, and then those of the list
+/// that begins at a word of `EDGE`, which has as many words as there are commits.
+fn lists(commits: u32, list_of: impl Fn(u32) -> u32) -> Vec<u8> {
     let word = |number: u32| number.to_be_bytes();
     let id = |number: u32| [&[0; 12][..], &word(number + 1), &[1; 4]].concat();
-    let record = |_| [&[1; 20][..], &word(0), &word(1 << 31), &word(1 << 2), &word(1_000_000_000)].concat();
+    let record = |number| [&[1; 20][..], &word(0), &word((1 << 31) | list_of(number)), &word(1 << 2), &word(1_000_000_000)].concat();
     let last = |number: u32| if number + 1 == commits { 1 << 31 } else { 0 };
     let chunks: [(&[u8; 4], Vec<u8>); 4] = [
         (b"OIDF", word(commits).repeat(256)),
@@ -136,4 +148,46 @@ pub fn long_lists(commits: u32) -> Vec<u8> {
     bytes.extend(chunks.iter().flat_map(|(_, body)| body));
     bytes.extend(checksum_of(&bytes));
     bytes
+}
+
+/// A folder with a chain whose lines name so many layers: all one file, or each a file of its own.
+pub fn chain_of_lines(at: &Path, lines: usize, is_one: bool) {
+    let _ = fs::remove_dir_all(at);
+    fs::create_dir_all(at).unwrap();
+    let name = |number: usize| if is_one { 0 } else { number };
+    let file = long_lists(3);
+    for number in 0..=name(lines - 1) {
+        let path = at.join(format!("graph-{number}.graph"));
+        fs::write(path, &file).unwrap();
+    }
+    fs::write(at.join("commit-graph-chain"), (0..lines).map(|line| format!("{}\n", name(line))).collect::<String>()).unwrap();
+}
+
+extern "C" {
+    fn clock_gettime(clock: i32, out: *mut [i64; 2]) -> i32;
+}
+
+/// The processor time of this thread.
+fn processor_time() -> Duration {
+    const OF_THIS_THREAD: i32 = 3;
+    let mut told = [0; 2];
+    // SAFETY: on a Linux of 64 bits a time is two such numbers, of seconds and of nanoseconds.
+    assert_eq!(unsafe { clock_gettime(OF_THIS_THREAD, &mut told) }, 0);
+    Duration::new(told[0] as u64, told[1] as u32)
+}
+
+/// That a work takes no more than some eight times as long for four times as much: for each size what is made for it, and then the
+/// work on it, whose least time of three is taken. A body that is quadratic takes sixteen times as long.
+pub fn grows_with_its_size<T>(size: usize, make: impl Fn(usize) -> T, work: impl Fn(&T)) {
+    let times = [size, 2 * size, 4 * size].map(|size| {
+        let made = make(size);
+        let time = || {
+            let start = processor_time();
+            work(&made);
+            processor_time() - start
+        };
+        (0..3).map(|_| time()).min().unwrap()
+    });
+    println!("{times:?} for {size}, twice and four times as much");
+    assert!(times[2] < 8 * times[0] + Duration::from_millis(5), "{times:?}");
 }

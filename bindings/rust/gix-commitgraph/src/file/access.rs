@@ -9,22 +9,28 @@ use std::path::Path;
 
 impl File {
     /// The number of files that stand below it in its chain.
+    #[must_use]
     pub fn base_graph_count(&self) -> u8 {
         self.layer().base_count()
     }
 
     /// The commit at a position. Panics where the file has no such position.
+    #[must_use]
+    #[inline]
     pub fn commit_at(&self, pos: Position) -> Commit<'_> {
         let layer = self.layer();
-        Commit::new(layer, pos, self.layers.graph.commit_at(layer.position(pos)))
+        layer.position(pos);
+        Commit::new(&self.layers.graph, layer, pos)
     }
 
     /// The kind of hash of all ids.
+    #[must_use]
     pub fn object_hash(&self) -> gix_hash::Kind {
         self.layers.kind
     }
 
     /// The id at a position. Panics where the file has no such position.
+    #[must_use]
     pub fn id_at(&self, pos: Position) -> &oid {
         self.layer().id_at(pos)
     }
@@ -45,20 +51,24 @@ impl File {
     }
 
     /// The position of an id.
+    #[must_use]
     pub fn lookup(&self, id: impl AsRef<oid>) -> Option<Position> {
         self.layers.graph.lookup(id.as_ref().as_bytes()).map(|pos| Position(pos.0))
     }
 
     /// The number of commits.
+    #[must_use]
     pub fn num_commits(&self) -> u32 {
         self.layers.graph.num_commits()
     }
 
     /// The path of the file.
+    #[must_use]
     pub fn path(&self) -> &Path {
         self.layer().path()
     }
 
+    #[inline]
     pub(crate) fn layer(&self) -> &Layer {
         &self.layers.all[0]
     }

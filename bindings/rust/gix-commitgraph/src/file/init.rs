@@ -2,21 +2,27 @@
 
 use crate::layers::Layers;
 use crate::{Error, File};
-use commitgraph::{LayerFile, Place};
+use commitgraph::{Bytes, LayerFile, Place};
 use std::path::{Path, PathBuf};
 
 impl File {
-    /// Opens the file at a path.
+    /// Opens the file at a path, which is read.
+    ///
+    /// # Errors
+    ///
+    /// It cannot be read, its bytes are no layer, or memory ran out.
     pub fn at(path: impl AsRef<Path>) -> Result<File, Error> {
         File::try_from(path.as_ref())
     }
 
-    /// The file of these bytes, which are copied, as though it stood at a path. A `memmap2::Mmap` is taken too.
-    pub fn new(data: impl AsRef<[u8]>, path: PathBuf) -> Result<File, Error> {
-        let mut bytes = Vec::new();
-        bytes.try_reserve_exact(data.as_ref().len()).map_err(|_| commitgraph::OpenError::OutOfMemory)?;
-        bytes.extend_from_slice(data.as_ref());
-        Ok(File { layers: Layers::of_files(vec![LayerFile { path, bytes }])? })
+    /// The file of these bytes, as though it stood at a path. They are read where they are, and dropped with the file, and with the
+    /// graph that it may become a part of: a `memmap2::Mmap` is opened without a copy.
+    ///
+    /// # Errors
+    ///
+    /// The bytes are no layer, or memory ran out.
+    pub fn new(data: impl AsRef<[u8]> + Send + Sync + 'static, path: PathBuf) -> Result<File, Error> {
+        Ok(File { layers: Layers::of_files(vec![LayerFile { path, bytes: Bytes::of_owner(data) }])? })
     }
 }
 

@@ -2,7 +2,7 @@
 
 use crate::file::Commit;
 use crate::{Error, File};
-use commitgraph::{Fault, LayerFault, LayerOutcome, VerifyError};
+use commitgraph::{Fault, LayerFault, LayerOutcome, OpenError, VerifyError};
 use gix_hash::{oid, ObjectId};
 use std::collections::HashMap;
 use std::convert::Infallible;
@@ -24,12 +24,17 @@ pub struct Outcome {
 
 impl File {
     /// The checksum that the file ends with.
+    #[must_use]
     pub fn checksum(&self) -> &oid {
         self.layer().checksum()
     }
 
     /// Checks the file, without those below it, and calls the processor on its commits, in the order of their positions, up to the
-    /// first fault. The error is the first fault, or before it the first error of the processor.
+    /// first fault.
+    ///
+    /// # Errors
+    ///
+    /// The first fault, or before it the first error of the processor; or that memory ran out.
     pub fn traverse<'a, Processor>(&'a self, mut processor: Processor) -> Result<Outcome, Error>
     where
         Processor: FnMut(&Commit<'a>) -> Result<(), Error>,
@@ -52,8 +57,11 @@ impl File {
         })
     }
 
-    /// Whether the checksum is the digest of the bytes before it, which is answered. Where it is, the rest of the file is checked
-    /// too, which takes some time more.
+    /// The checksum, where it is the digest of the bytes before it. Then the rest of the file is checked too, which takes some time more.
+    ///
+    /// # Errors
+    ///
+    /// It is another one.
     pub fn verify_checksum(&self) -> Result<ObjectId, Error> {
         match self.check() {
             Err(error @ VerifyError::Fault(Fault::Layer { fault: LayerFault::Checksum, .. })) => Err(self.refusal(error)),
@@ -73,13 +81,13 @@ impl File {
         self.layers.graph.layer(0).expect("a file is a layer").verify()
     }
 
-    /// For each number of parents that some commit has, how many have it.
+    /// For each number of parents that some commit has, how many have it, of a file that the check has passed. It takes a step for each
+    /// commit and for each word of the extra edge list, however many commits share a list.
     fn parent_counts(&self) -> Result<HashMap<u32, u32>, Error> {
+        let lengths = self.layer().list_lengths().map_err(|_| OpenError::OutOfMemory)?;
         let mut counts = HashMap::new();
-        for block in self.layers.graph.parent_blocks() {
-            for parents in block.iter() {
-                *counts.entry(parents?.len() as u32).or_insert(0) += 1;
-            }
+        for commit in self.iter_commits() {
+            *counts.entry(commit.parent_count(&lengths)).or_insert(0) += 1;
         }
         Ok(counts)
     }
