@@ -11,7 +11,7 @@ ERROR = re.compile(r"(?:\./)?(proofs/(\S+)/\w+\.antt):(\d+):\d+: error: (.*)")
 STALE = re.compile(r"has no field|is not in scope|has no `|was not admitted")
 """What an error says where a proof names what an edit took away."""
 
-ANSWER = re.compile(r"(?:abbrev )?(?:pub )?([a-z][\w-]*)")
+ANSWER = re.compile(r"(?:abbrev )?(?:pub )?([A-Za-z][\w-]*)")
 """The beginning of the first line of a definition in a proof file; an answer has the name of its goal."""
 
 BRANCH = re.compile(r"-(then|else|in|in_ok|in_err|in_default)(-.*)?$")
@@ -20,7 +20,10 @@ BRANCH = re.compile(r"-(then|else|in|in_ok|in_err|in_default)(-.*)?$")
 COUNT = re.compile(r"-\d+$")
 CLAUSE = "-clause-"
 ENSURES, REQUIRES = "returns", re.compile(r"(.+?)-requires(?:-.*)?")
-INVARIANT, LOOP = re.compile(r"invariant_of-(.+)"), re.compile(r"(.+)-(init|preserved|smaller)")
+INVARIANT = re.compile(r"(?:invariant_of|invariant)-(.+)|(.+)-(?:init|preserved)")
+MEASURE = re.compile(r"decreases-(.+)|(.+)-smaller")
+"""Goals, and the definitions that a file of proofs has of what is to hold and to fall in a loop."""
+
 UNNAMED = "a goal without a name"
 
 
@@ -81,13 +84,10 @@ def clause_of(goal):
     whole, _, named = goal.partition(CLAUSE)
     name = " " + COUNT.sub("", named) if named else ""
     place = COUNT.sub("", BRANCH.sub("", whole))
-    asked, kept, loop = REQUIRES.fullmatch(place), INVARIANT.fullmatch(place), LOOP.fullmatch(place)
     if place.split("-")[0] == ENSURES:
         return "ensures" + name
-    if asked:
-        return "requires%s of %s" % (name, asked.group(1))
-    if kept:
-        return "invariant%s of %s" % (name, kept.group(1))
-    if loop:
-        return "%s%s of %s" % ("measure" if loop.group(2) == "smaller" else "invariant", name, loop.group(1))
+    for word, form in (("requires", REQUIRES), ("invariant", INVARIANT), ("measure", MEASURE)):
+        found = form.fullmatch(place)
+        if found:
+            return "%s%s of %s" % (word, name, next(filter(None, found.groups())))
     return place + name
