@@ -76,7 +76,7 @@ def clauses(goals):
 def clause_of(goal):
     """The clause that a goal is about, wherever in the code it comes up:
 
-    - `ensures NAME`, or `ensures` where the clause has no name,
+    - `ensures NAME`, or `ensures` where it is the only one of the function,
     - `requires NAME of CALLEE`, or `requires of CALLEE`,
     - `invariant of NAME`, of a loop or of a value, and `measure of NAME`, of a loop,
     - of what makes a step safe the goal's own name, as `overflow_add-count`.
