@@ -1,4 +1,4 @@
-"""What the documents name in backquotes: paths, laws, definitions, edits that must fail, tests and other code.
+"""What the documents name in backquotes: paths, laws, definitions, tests and other code.
 
 Each check gives the places that name what is not there, or the code that no README of a crate names.
 """
@@ -10,7 +10,7 @@ import re
 import laws
 
 QUOTED = re.compile(r"`([^`\n]+)`")
-PATH = re.compile(r"(crates|docs|scripts|bench|src|specs|proofs|edits|must-fail)/\S*|[\w.*/-]+\.(rt|antt|edit|md|py)")
+PATH = re.compile(r"(crates|docs|scripts|bench|src|specs|proofs|must-fail)/\S*|[\w.*/-]+\.(rt|antt|md|py)")
 ANY_NAME = re.compile(r"\b[A-Z]+\b")
 """A name in capitals within a path, as in crates/NAME/src, stands for any name."""
 
@@ -40,13 +40,10 @@ DEFINED = re.compile(r"\bpub (?:record |data )?(\w+)")
 LAWS = re.compile(r"`(?:(\w+)::)?(law(?:::\w+)*)`" + LISTED)
 """A law or a module of laws, by its path, and others of the same module."""
 
-EDIT_FILE = re.compile(r"^crates/(\w+)/(?:edits|must-fail)/(\w+/)?([^/]*)\.edit$")
-"""An edit: its crate, the folder within those of the edits, and its name. A name of the folder, `run/`, names all in it."""
-
 TEST = re.compile(r"#\[test\]\s+(?:#\[.*\]\s+)*fn (\w+)")
 CELL_END = re.compile(r" \|(?= |$)")
-CONTRACT, EDITS, TESTS = "Contract", "Edits", "Tests"
-"""The titles of the columns that hold names of functions with contracts, of edits and of tests."""
+CONTRACT, TESTS = "Contract", "Tests"
+"""The titles of the columns that hold names of functions with contracts and of tests."""
 
 DECLARED = re.compile(r"\b(?:fn|struct|enum|trait|type|mod|const|ensures|for) (\w+)|^impl(?:<[^>]*>)? (?:\w+::)*(\w+)", re.MULTILINE)
 """What code has by a name: an item, a clause, or an impl by its trait and its type."""
@@ -98,14 +95,6 @@ def is_end(name, paths):
         return True
     folder, document = os.path.split(name) if name.endswith(".md") else (name, "")
     return bool(fnmatch.filter(paths, "*/" + os.path.join(ANY_NAME.sub("*", folder), document).rstrip("/")))
-
-
-def missing_edits(texts):
-    """The places in the columns of edits that name none of their crate."""
-    edits = {(crate, name) for crate, *names in (found.groups() for found in map(EDIT_FILE.match, texts) if found) for name in names}
-    for place, crate, column, name in quotations(texts, code_documents(texts)):
-        if column == EDITS and (crate, name) not in edits:
-            yield "%s names %s" % (place, name)
 
 
 def missing_laws(texts):
@@ -178,15 +167,6 @@ def unnamed_laws(texts):
     return unnamed_there(texts, laws.names(texts))
 
 
-def unnamed_edits(texts):
-    """The edits that the README of their crate names neither by themselves nor by their folder."""
-    known = names_by_crate(texts)
-    for path, found in sorted((path, EDIT_FILE.match(path)) for path in texts if EDIT_FILE.match(path)):
-        crate, *names = found.groups()
-        if known.get(crate, set()).isdisjoint(names):
-            yield "%s has %s" % (path, names[-1])
-
-
 def unnamed_there(texts, names):
     """Those names, by their files, that the README of the file's crate does not have."""
     known = names_by_crate(texts)
@@ -222,7 +202,7 @@ def missing_code(texts):
     functions = set(re.findall(r"\bfn (\w+)", "".join(code.values())))
     words = set(re.findall(r"\w+", "".join(code.values()))) | crates
     for place, _, column, name in quotations(texts, code_documents(texts)):
-        if CODE.fullmatch(name) and not PATH.fullmatch(name) and column != EDITS:
+        if CODE.fullmatch(name) and not PATH.fullmatch(name):
             if name.split("::")[-1] not in (functions | crates if column == TESTS else words):
                 yield "%s names %s" % (place, name)
 

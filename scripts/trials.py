@@ -1,4 +1,7 @@
-"""When the edits of each crate were last tried, by the file scripts/edits.tried, which scripts/edits writes."""
+"""When the edits of each crate were last tried: by the notes in scripts/edits.tried, and by the later runs in this tree.
+
+A run writes into `out`, which no commit has, and `scripts/edits --note` takes what it wrote into the notes.
+"""
 
 import datetime
 import glob
@@ -7,18 +10,20 @@ import os
 import subprocess
 from typing import List, NamedTuple
 
+import entries
 from documents import lower_crates
 
-FILE = os.path.join("scripts", "edits.tried")
+NOTES, RUNS = os.path.join("scripts", "edits.tried"), os.path.join("out", "edits.tried")
 HEAD = """\
 # When scripts/edits last tried the edits and right bodies of each crate, on which commit, how many passed and failed, and
 # digests of the crate's texts and of those of the crates below it. Names at the end of a line are edits that are left, as
-# the run was cut off. scripts/edits writes this; scripts/edits --when reads it.
+# the run was cut off. scripts/edits --note writes this, from what the runs since found; scripts/edits --when reads both.
 """
 READ = ("src", "specs", "proofs")
 """The folders that a check of a crate above reads."""
 
-OWN = (*READ, "edits", "must-pass")
+OWN = {entries.EDITS: "edits", entries.RIGHT_BODIES: "must-pass"}
+"""The files of entries, and the folder in which each entry counts as a file of its own: their order does not matter."""
 
 
 class Trial(NamedTuple):
@@ -35,10 +40,24 @@ class Trial(NamedTuple):
 
 
 def recorded(top):
-    """The last trial of each crate of a tree, by the crate's name."""
-    path = os.path.join(top, FILE)
+    """The last trial of each crate of a tree, by the crate's name: of one in the notes and one of a run in this tree, that of
+    the run, unless it tried other texts than those that the crate has, and the other tried these.
+    """
+    noted, ran = written(top, NOTES), written(top, RUNS)
+    stale = {crate for crate in noted.keys() & ran.keys() if not is_on(top, ran[crate]) and is_on(top, noted[crate])}
+    return {**noted, **{crate: trial for crate, trial in ran.items() if crate not in stale}}
+
+
+def written(top, name):
+    """The trials in a file, by their crates."""
+    path = os.path.join(top, name)
     lines = open(path, encoding="utf-8").read().split("\n") if os.path.exists(path) else []
     return {line.split()[0]: trial_of(*line.split()) for line in lines if line and not line.startswith("#")}
+
+
+def is_on(top, trial):
+    """Whether a trial was on the texts that a tree has."""
+    return (trial.own, trial.below) == digests(top, trial.crate)
 
 
 def trial_of(crate, date, commit, passed, failed, own, below, *left):
@@ -64,12 +83,24 @@ def record(top, trial, name, complaint):
         left = [other for other in trial.left if other != name]
         is_wrong = complaint is not None
         trial = trial._replace(passed=trial.passed + (not is_wrong), failed=trial.failed + is_wrong, left=left)
-    trials = {**recorded(top), trial.crate: trial}
-    path = os.path.join(top, FILE)
+    write(top, RUNS, {**written(top, RUNS), trial.crate: trial})
+    return trial
+
+
+def note(top):
+    """Takes what the runs in this tree found into the notes, and answers the crates whose line is another one then."""
+    trials, noted = recorded(top), written(top, NOTES)
+    write(top, NOTES, trials)
+    return sorted(crate for crate in trials if trials[crate] != noted.get(crate))
+
+
+def write(top, name, trials):
+    """Writes trials into a file, sorted by their crates."""
+    path = os.path.join(top, name)
+    os.makedirs(os.path.dirname(path), exist_ok=True)
     with open(path + ".new", "w", encoding="utf-8") as file:
         file.write(HEAD + "".join("%s\n" % line_of(trials[crate]) for crate in sorted(trials)))
     os.replace(path + ".new", path)
-    return trial
 
 
 def line_of(trial):
@@ -103,16 +134,29 @@ def digests(top, crate):
     """Digests of the texts of a crate, and of those of the crates below it."""
     with open(os.path.join(top, "crates.txt"), encoding="utf-8") as file:
         lower = lower_crates(file.read()).get(crate, {crate})
-    return digest(top, [crate], OWN), digest(top, sorted(lower - {crate}), READ)
+    below = (text for other in sorted(lower - {crate}) for text in texts_of(top, other))
+    return digest([*texts_of(top, crate), *entries_of(top, crate)]), digest(below)
 
 
-def digest(top, crates, folders):
-    """A digest of the files in these folders of crates, and of their paths."""
+def digest(texts):
+    """A digest of texts and of their paths."""
     found = hashlib.sha256()
-    for crate in crates:
-        for folder in folders:
-            for path in sorted(glob.glob(os.path.join(top, "crates", crate, folder, "**", "*.*"), recursive=True)):
-                with open(path, "rb") as file:
-                    text = file.read()
-                found.update(b"%s %d\n" % (os.path.relpath(path, top).encode("utf-8"), len(text)) + text)
+    for path, text in texts:
+        found.update(b"%s %d\n" % (path.encode("utf-8"), len(text)) + text)
     return found.hexdigest()[:12]
+
+
+def texts_of(top, crate):
+    """The paths and the texts of what a check reads of a crate."""
+    for folder in READ:
+        for path in sorted(glob.glob(os.path.join(top, "crates", crate, folder, "**", "*.*"), recursive=True)):
+            with open(path, "rb") as file:
+                yield os.path.relpath(path, top), file.read()
+
+
+def entries_of(top, crate):
+    """The edits and the right bodies of a crate, each as a path and a text without the line of its name."""
+    for name, folder in OWN.items():
+        texts = {edit.entry: edit.text.split("\n", 1)[1] for edit in entries.of_crate(top, crate, name)}
+        paths = {"crates/%s/%s/%s.edit" % (crate, folder, entry): text for entry, text in texts.items()}
+        yield from ((path, paths[path].encode("utf-8")) for path in sorted(paths))
