@@ -132,9 +132,9 @@ fn micros<R: Clock + Abort>(rt: &R, start: Instant) -> u128 {
     start.elapsed(rt).expect(rt, "a clock").as_micros()
 }
 
-/// Compares how long pushes and a check of the whole take. A push that checks all layers anew takes
-/// a hundred times as long.
-fn compare_times<R: Clock + Abort>(rt: &R, alloc: Global) {
+/// Whether pushes take less than twenty times as long as a check of the whole. A push that checks
+/// all layers anew takes a hundred times as long.
+fn are_quick<R: Clock + Abort>(rt: &R, alloc: Global) -> bool {
     let mut graph = checked(rt, alloc, false, TEN);
     let files = layers_on(rt, alloc, &graph, TEN, LAYERS);
     let start = now(rt);
@@ -143,7 +143,19 @@ fn compare_times<R: Clock + Abort>(rt: &R, alloc: Global) {
     let whole = graph.into_graph();
     let start = now(rt);
     let _ = right(rt, alloc, &whole);
-    assert!(rt; pushes / 20 < micros(rt, start));
+    pushes / 20 < micros(rt, start)
+}
+
+/// How often the times are compared at most, since other programs may take the processor meanwhile.
+const TURNS: u32 = 10;
+
+/// Compares how long pushes and a check of the whole take.
+fn compare_times<R: Clock + Abort>(rt: &R, alloc: Global) {
+    let mut quick = false;
+    for _ in 0..TURNS {
+        quick = quick || are_quick(rt, alloc);
+    }
+    assert!(rt; quick);
 }
 
 #[test]
