@@ -1,7 +1,8 @@
 /* Reads, checks and writes the commit-graph files of Git.
  *
  * The calls below are the proved code of Nolavimure, compiled: they read no byte out of bounds, never abort and always
- * return, for all bytes of files and all numbers, if the caller keeps the rules here. Nothing checks that a caller does.
+ * return, for all bytes of files and all numbers, if the caller keeps the rules here. Nothing checks that a caller does. Only
+ * cg_strerror and cg_advice, which answer texts, are plain C.
  *
  * Rules for all calls
  * - A pointer is valid for the length beside it. Beside a length of 0 it may be NULL (this is tested; the proofs speak of pointers
@@ -666,7 +667,8 @@ typedef struct cg_line { bool found; size_t end, next; } cg_line;
 /* The line that begins at the byte `start` of a chain file: 0 for the first one, and then `next` of the one before. */
 cg_line cg_chain_line(const uint8_t *text, size_t len, size_t start);
 
-/* What happened, as a sentence; another number than those of cg_code is not known. */
+/* What happened, as a sentence; another number than those of cg_code is not known. This call and cg_advice stand here whole, and the
+ * library has them besides, by the same names, for other languages. */
 static inline const char *cg_strerror(uint32_t code) {
     switch (code) {
     case CG_OK: return "no error";

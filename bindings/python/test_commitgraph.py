@@ -335,6 +335,12 @@ class OverGit(unittest.TestCase):
         installed.write_bytes(b"")
         done = subprocess.run(command, env={**at, "COMMITGRAPH_LIB": self.folder.name}, capture_output=True, text=True, cwd="/")
         self.assertIn(f"ImportError: {installed}: file too short", done.stderr)
+        if shutil.which("cc"):
+            older = f"unsigned cg_version(void) {{ return {commitgraph.VERSION}; }}"
+            made = ["cc", "-shared", "-x", "c", "-", "-o", str(installed)]
+            subprocess.run(made, input=older, text=True, check=True)
+            done = subprocess.run(command, env={**at, "COMMITGRAPH_LIB": self.folder.name}, capture_output=True, text=True, cwd="/")
+            self.assertIn(f"ImportError: {installed} is older than this module, and has no cg_open; what to do: ", done.stderr)
 
     def test_refusals(self) -> None:
         self.git("commit-graph", "write", "--reachable")

@@ -11,6 +11,7 @@ proved the library for C.
 """
 import chunked
 import concurrent.futures
+import ctypes
 import functools
 import gix
 import hashlib
@@ -31,6 +32,7 @@ import time
 
 sys.path.insert(0, str(pathlib.Path(__file__).resolve().parent.parent))
 
+import error_numbers
 import later
 import proving
 
@@ -50,6 +52,8 @@ CALLING_ALL = ("ask.c", "large.c", "memory.c", "threads.c")
 """The programs that make each call. Those of layout.c are the calls that write a struct."""
 IN_HEADER = {"cg_strerror", "cg_advice", "cg_closed", "cg_no_bytes", "cg_no_flag", "cg_not_lent"}
 """Functions that the header has whole."""
+SENTENCES = ("cg_strerror", "cg_advice")
+"""Those of them that the library has too."""
 STRICT = ["-D_GNU_SOURCE", "-Wall", "-Wextra", "-Wpedantic", "-Werror"]
 COUNTING = threading.Lock()
 LATER = later.Later()
@@ -120,13 +124,28 @@ def exports(archive):
         expect(f"{path.name} declares the exports", sorted(declared) == sorted(found), declared)
     if present("nm", "the names in the library"):
         named = re.findall(r" [A-Z] (\w+)$", run("nm", "--extern-only", "--defined-only", archive).stdout, re.MULTILINE)
-        expect("the library has the exports, and no other names", sorted(named) == sorted(found), named)
+        expect("the library has the exports, the sentences and no other names", sorted(named) == sorted([*found, *SENTENCES]), named)
     crate = "".join(path.read_text() for path in rust.parent.glob("*.rs"))
     calls = {"the Rust crate": re.findall(r"sys::(cg_\w+)\(", crate)}
     for program in CALLING_ALL:
         calls[program] = re.findall(r"\b(cg_\w+)\(", (HERE / program).read_text())
     for caller, made in calls.items():
         expect(f"{caller} makes each call", set(made) - IN_HEADER == set(found), set(found) ^ set(made))
+
+
+def sentences(library):
+    """The library says of each number what its header says."""
+    loaded, header = ctypes.CDLL(str(library)), (HEADER / "commitgraph.h").read_text()
+    loaded.cg_strerror.restype = loaded.cg_advice.restype = ctypes.c_char_p
+    said, anew = error_numbers.advised_in_header(header)
+    happened = dict(error_numbers.SENTENCE.findall(header.partition(error_numbers.ADVISING)[0]))
+    numbers = {name: int(number) for name, number in error_numbers.IN_HEADER.findall(header)}
+    for name, number in numbers.items():
+        advice = said.get(name, anew if numbers["OPEN_CHAIN_NOT_TEXT"] <= number < numbers["WRITE_KIND"] else "")
+        told = loaded.cg_strerror(number).decode(), loaded.cg_advice(number).decode()
+        expect(f"the library's sentences of {name}", told == (happened[name], advice), told)
+    unknown = {(loaded.cg_strerror(number), loaded.cg_advice(number)) for number in range(1000) if number not in numbers.values()}
+    expect("the library's sentence of numbers that are not known", unknown == {(b"a number that is not known", b"")}, unknown)
 
 
 def git(where, *words):
@@ -801,6 +820,7 @@ def main():
         return
     archive = built()
     exports(archive)
+    sentences(archive.with_suffix(".so"))
     if not GRAPHTOOL:
         print("what graphtool lists and counts: left out, since no GRAPHTOOL is given")
     with tempfile.TemporaryDirectory() as folder:

@@ -169,8 +169,8 @@ def check_library(results, folder):
     """Where the proofs of changed sources fail, no library is made of what was proved before."""
     clone = Clone(folder)
     makes = "#!/bin/sh\nwhile [ $# -gt 1 ]; do case $1 in -o | rcD) echo made >\"$2\" ;; esac; shift; done\n"
-    for tool in ("rt", "ld", "objcopy", "ar"):
-        clone.put("bin/" + tool, makes)
+    for tool in ("bin/rt", "bin/ld", "bin/objcopy", "bin/ar", "crates/commitgraph_c/out/toolchain/bin/clang"):
+        clone.put(tool, makes)
     proved = "crates/commitgraph_c/out/libcommitgraph_c.a"
     clone.put(proved, "")
     clone.put("bin/python3", "#!/bin/sh\necho 'no proof' >&2\nexit 1\n")
