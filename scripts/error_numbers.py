@@ -132,7 +132,7 @@ LINES = {
 
 def advice(row):
     """What the library says to do about a row of the document: the programs say the part on writing anew by itself."""
-    anew = next(one.happened for one in refusals.read_rows() if one.text == refusals.ANEW)
+    anew = next(one.happened for one in refusals.read_rows() if one.text == "cg_advice")
     if row.to_do == refusals.ANEW:
         return anew
     if row.to_do.endswith(refusals.ANEW):

@@ -767,10 +767,10 @@ static inline const char *cg_strerror(uint32_t code) {
 }
 
 /* What to do about it, with the commands to type, in the words of docs/REFUSALS.md; "" where it says nothing, and for a number that is
- * not known. A commit-graph is written anew by commands that are typed at the top of its repository. */
+ * not known. It does not know which files were opened: whoever tells it names them, as bindings/c/example.c does. */
 static inline const char *cg_advice(uint32_t code) {
-#define CG_ANEW "remove `.git/objects/info/commit-graph` and the folder `.git/objects/info/commit-graphs`, " \
-                "and then run `git commit-graph write --reachable`, with `--changed-paths` if it had filters"
+#define CG_ANEW "remove the files that were opened (of a chain, its whole folder), and then run `git commit-graph write " \
+                "--reachable` in their repository, with `--changed-paths` if they had filters"
     switch (code) {
     case CG_OUT_OF_MEMORY: return "give the program more memory";
     case CG_OPEN_NOTHING_FOUND: return "check the path";

@@ -342,6 +342,16 @@ class OverGit(unittest.TestCase):
             done = subprocess.run(command, env={**at, "COMMITGRAPH_LIB": self.folder.name}, capture_output=True, text=True, cwd="/")
             self.assertIn(f"ImportError: {installed} is older than this module, and has no cg_open; what to do: ", done.stderr)
 
+    def test_sentences(self) -> None:
+        """Each number has a sentence; and what to do speaks of what was opened, and not of a path."""
+        for code in Code:
+            self.assertNotIn("not known", str(Error(code)))
+            self.assertNotIn(".git/objects/info/commit-graph", str(Error(code)))
+        told = str(Error(Code.CHECK_FAN, path="a"))
+        self.assertTrue(told.startswith("a: the fan (chunk `OIDF`) "), told)
+        self.assertIn("; what to do: remove the files that were opened (of a chain, its whole folder), and then run `git ", told)
+        self.assertEqual((Error(Code.STOPPED).advice, Error(Code.OUT_OF_MEMORY).advice), ("", "give the program more memory"))
+
     def test_refusals(self) -> None:
         self.git("commit-graph", "write", "--reachable")
         data = (self.info / "commit-graph").read_bytes()

@@ -669,8 +669,8 @@ def refused_example(compiler, program, data, kind):
     commit = f"the commit at position 0 is {data[ids : ids + size].hex()}\n"
     for title, content, words in (
         ("a checksum", data[:-1] + bytes([data[-1] ^ 1]), ["the checksum ", "\nwhat to do: check the disk, "]),
-        ("a generation number", sealed, ["the generation number ", "\n" + commit + "what to do: remove `.git/"]),
-        ("an empty file", b"", ["the file has fewer than 1100 bytes", "\nwhat to do: remove `.git/"]),
+        ("a generation number", sealed, ["the generation number ", "\n" + commit + "what to do: remove the files that were opened "]),
+        ("an empty file", b"", ["the file has fewer than 1100 bytes", "\nwhat to do: remove the files that were opened "]),
     ):
         path.write_bytes(content)
         done = run(program, path, "00" * size)
@@ -781,7 +781,7 @@ def python(library):
         return
     tests = module.with_name("test_commitgraph.py")
     done = run(sys.executable, "-B", tests, env={**os.environ, "COMMITGRAPH_LIB": str(library.parent)})
-    expect("Python: tests", done.returncode == 0 and "Ran 12 tests" in done.stderr, done)
+    expect("Python: tests", done.returncode == 0 and "Ran 13 tests" in done.stderr, done)
 
 
 def parts(archive, scratch, graphs):

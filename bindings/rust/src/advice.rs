@@ -5,8 +5,8 @@ use std::fmt;
 
 macro_rules! anew {
     () => {
-        "remove `.git/objects/info/commit-graph` and the folder `.git/objects/info/commit-graphs`, \
-         and then run `git commit-graph write --reachable`, with `--changed-paths` if it had filters"
+        "remove the files that were opened (of a chain, its whole folder), and then run `git commit-graph write --reachable` \
+         in their repository, with `--changed-paths` if they had filters"
     };
 }
 

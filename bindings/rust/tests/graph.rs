@@ -309,7 +309,7 @@ fn each_error_is_a_sentence() {
         (&checksum, "layer 2: the checksum is not the digest of its bytes"),
         (&VerifyError::<QueryError>::Fault(checksum), ": they were changed or lost; what to do: check the disk, "),
         (&Fault::BaseId { layer: 2, index: 1 }, "base id 1 of layer 2 is not the checksum of layer 1"),
-        (&DatesError::TooLarge { pos }, "position 7: the date of the commit is 2^63 or more; what to do: remove `.git/"),
+        (&DatesError::TooLarge { pos }, "position 7: the date of the commit is 2^63 or more; what to do: remove the files "),
         (&ProbeError::Version { layer: 1, version: 3 }, "the version of the hash is 3, and neither 1 nor 2; what to do: write it anew,"),
         (&QueryError::OutOfMemory, "memory ran out"),
         (&VerifyError::Processor { pos, error: QueryError::OutOfMemory }, "the processor refused the commit at position 7"),

@@ -99,7 +99,7 @@ fn each_refusal_names_its_commit() {
     assert_eq!(writer.write(), Err(WriteError::Below { commit: 0, pos: Position(0) }));
     let wrong = WriteError::Dates(DatesError::DataSize { layer: 1 });
     let why = wrong.source().unwrap().to_string();
-    assert!(why.starts_with("layer 1: `GDA2` has not four bytes for each commit; what to do: remove `.git/"), "{why}");
+    assert!(why.starts_with("layer 1: `GDA2` has not four bytes for each commit; what to do: remove the files "), "{why}");
 }
 
 #[test]
