@@ -6,13 +6,14 @@
  *
  * Rules for all calls
  * - A pointer is valid for the length beside it. Beside a length of 0 it may be NULL (this is tested; the proofs speak of pointers
- *   that are not null). No other pointer may be NULL. What a call writes does not overlap what it reads, and what it reads does
- *   not change until it returns (a mapped file can change: see cg_open).
- * - A cg_graph is CG_CLOSED, or a copy of what cg_open, cg_open_lent, cg_open_known, cg_open_checked, cg_check or cg_check_within
- *   wrote, and none of cg_close, cg_check and cg_check_within was yet given it. All copies are one graph. Nobody looks into it or
- *   changes it.
+ *   that are not null). No other pointer may be NULL. What a call writes overlaps neither what it reads nor what else it writes, and
+ *   what it reads does not change until it returns (a mapped file can change: see cg_open).
+ * - A cg_graph is CG_CLOSED, or what cg_open, cg_open_lent, cg_open_known, cg_open_checked, cg_check or cg_check_within wrote, or a
+ *   copy of that. All copies are one graph. Nobody looks into it or changes it. cg_close, cg_check and cg_check_within take the
+ *   graph that they are handed, and leave CG_CLOSED where it was, also where a check refuses it: to close that once more does
+ *   nothing. No other copy of the graph is used after that.
  * - Threads: any number of calls may read one graph at a time, and none waits for another. cg_close, or cg_check, or
- *   cg_check_within, is called once, when no call on the graph is running, and none follows.
+ *   cg_check_within, is called when no call on the graph is running.
  * - No call keeps a pointer that it was given, but cg_open_lent those to the bytes. No call is made from a signal handler, or in
  *   the child of a process with threads before it execs. Memory comes from malloc, realloc and free.
  * - What an out parameter holds before a call does not matter, but for the cg_graph, the cg_bytes or the cg_flag that a call hands
@@ -24,9 +25,9 @@
  * file. A lookup goes over the layers from the lowest on, and searches each by halves; a call for a position finds its layer by
  * halves; one for a layer counts those below it. Writing into a room costs what is written. Comments say where a call costs more.
  *
- * The library is for x86-64 Linux. Link with libcommitgraph.a or libcommitgraph.so.0; memory comes from the program's malloc.
- * Until version 1.0, a program is built with the header of the library that it is linked with: structs and numbers may change
- * with the second number of the version, and with it the number of libcommitgraph.so. They do not with the third.
+ * The library is for x86-64 Linux. Link with libcommitgraph.a or libcommitgraph.so.1; memory comes from the program's malloc.
+ * Until version 1.0, a program is built with the header of the library that it is linked with: calls, structs and numbers may
+ * change with the second number of the version, and with it the number of libcommitgraph.so. They do not with the third.
  */
 #ifndef COMMITGRAPH_H
 #define COMMITGRAPH_H
@@ -273,11 +274,12 @@ struct cg_count;
 cg_error cg_open_checked(const cg_file *files, size_t count, bool distinct_ids, struct cg_verdict *verdict,
                          struct cg_count *counts, size_t counts_len, cg_graph *out);
 
-/* Checks a graph, as cg_verify does, and hands it out in *out as cg_open_checked does: no file is read again. The graph that is
- * passed is given back as to cg_close, also where it is refused. Answers the verdict's code, and *verdict is always written: its
- * codes are those of cg_verify, and `called` is 0 where it is not CG_OK. Then *out is left as it was, and `counts` too. */
-uint32_t cg_check(cg_graph graph, bool distinct_ids, struct cg_verdict *verdict, struct cg_count *counts, size_t counts_len,
-                  cg_graph *out);
+/* Checks a graph, as cg_verify does, and hands it out in *out as cg_open_checked does: no file is read again. *graph is CG_CLOSED
+ * after that. Where the graph is refused, it is closed as by cg_close; then *out is left as it was, and `counts` too. So cg_close of
+ * both is right in any case. Answers the verdict's code, and *verdict is always written: its codes are those of cg_verify, and
+ * `called` is 0 where it is not CG_OK. `graph` and `out` are the addresses of two graphs. */
+uint32_t cg_check(cg_graph *graph, bool distinct_ids, struct cg_verdict *verdict, struct cg_count *counts,
+                  size_t counts_len, cg_graph *out);
 
 /* A flag that stops calls, or none. It follows the rules for a cg_graph, with cg_flag_free in place of cg_close. A thread may raise it
  * while calls of others look at it. No call takes a function of the caller's in its place: the proofs could not speak of it. */
@@ -299,8 +301,8 @@ uint32_t cg_flag_new(cg_flag *out);
  * and still answers. Answers whether there was one. */
 bool cg_flag_raise(cg_flag flag);
 
-/* Frees a flag, and answers whether there was one: false of CG_NO_FLAG, with which nothing is done. */
-bool cg_flag_free(cg_flag flag);
+/* Frees a flag, leaves CG_NO_FLAG where it was, and answers whether there was one: false of CG_NO_FLAG, with which nothing is done. */
+bool cg_flag_free(cg_flag *flag);
 
 /* When a call stops before its end: how many commits it may visit, and a flag, or CG_NO_FLAG, at which it looks before it reads the
  * parents of each, or goes on past each. A call that stops answers CG_STOPPED, and writes only what it writes when it is refused for
@@ -308,13 +310,13 @@ bool cg_flag_free(cg_flag flag);
 typedef struct cg_limit { uint64_t visits; cg_flag flag; } cg_limit;
 
 /* Checks a graph as cg_check does, unless the limit stops the check. It visits the commits in their order, so that CG_STOPPED tells the
- * first one, at `position`, that it did not go on with. The digest of a file, which comes before its commits, is not stopped. The
- * graph that is passed is given back then too. */
-uint32_t cg_check_within(cg_graph graph, bool distinct_ids, cg_limit limit, struct cg_verdict *verdict, struct cg_count *counts,
-                         size_t counts_len, cg_graph *out);
+ * first one, at `position`, that it did not go on with. The digest of a file, which comes before its commits, is not stopped. A
+ * graph whose check is stopped is closed too. */
+uint32_t cg_check_within(cg_graph *graph, bool distinct_ids, cg_limit limit, struct cg_verdict *verdict,
+                         struct cg_count *counts, size_t counts_len, cg_graph *out);
 
-/* Frees a graph, and answers whether there was one: false of CG_CLOSED, with which nothing is done. */
-bool cg_close(cg_graph graph);
+/* Frees a graph, leaves CG_CLOSED where it was, and answers whether there was one: false of CG_CLOSED, with which nothing is done. */
+bool cg_close(cg_graph *graph);
 
 /* The number of commits; 0 of CG_CLOSED. */
 uint32_t cg_num_commits(cg_graph graph);
@@ -656,8 +658,9 @@ cg_write_error cg_write(cg_graph graph, const cg_new_commit *commits, size_t cou
  * their end and of CG_NO_BYTES: so with no room it answers how much is wanted, and copies nothing. */
 uint64_t cg_bytes_copy(cg_bytes bytes, uint64_t start, uint8_t *out, size_t len);
 
-/* Frees bytes, and answers whether there were some: false of CG_NO_BYTES, with which nothing is done. */
-bool cg_bytes_free(cg_bytes bytes);
+/* Frees bytes, leaves CG_NO_BYTES where they were, and answers whether there were some: false of CG_NO_BYTES, with which nothing is
+ * done. */
+bool cg_bytes_free(cg_bytes *bytes);
 
 /* A line of a chain file, commit-graph-chain, each of which names a layer, from the lowest on: the line L is the layer of the
  * file graph-L.graph in the same folder. `found`: the line is the bytes from the start that was asked for up to `end`, without

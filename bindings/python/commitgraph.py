@@ -12,7 +12,7 @@ and `write_layer` make the bytes that Git writes of commits.
 Threads may share a graph: any number of them may ask it at a time, and a call that has begun comes to its end also where another
 thread closes the graph. A graph is not copied or pickled.
 
-It calls libcommitgraph.so.0, which is looked for in the folder that COMMITGRAPH_LIB names; where that is not set, in this clone, where
+It calls libcommitgraph.so.1, which is looked for in the folder that COMMITGRAPH_LIB names; where that is not set, in this clone, where
 `scripts/library` makes it, and then where the system looks. The calls are proved, this module is not: test_commitgraph.py tests it.
 """
 
@@ -32,7 +32,7 @@ from typing import NamedTuple, NoReturn
 
 VERSION = 100
 """The version of the library that this module is for."""
-INSTALLED = "libcommitgraph.so.0"
+INSTALLED = "libcommitgraph.so.1"
 """The name of the library where it is installed."""
 
 
@@ -323,11 +323,11 @@ CALLS = {
         _PathError,
         (c_void_p, c_size_t, c_uint32, POINTER(_Known), c_size_t, c_void_p, c_size_t, POINTER(_Graph)),
     ),
-    "cg_check_within": (c_uint32, (_Graph, c_bool, _Limit, POINTER(_Verdict), c_void_p, c_size_t, POINTER(_Graph))),
-    "cg_close": (c_bool, (_Graph,)),
+    "cg_check_within": (c_uint32, (POINTER(_Graph), c_bool, _Limit, POINTER(_Verdict), c_void_p, c_size_t, POINTER(_Graph))),
+    "cg_close": (c_bool, (POINTER(_Graph),)),
     "cg_flag_new": (c_uint32, (POINTER(_Flag),)),
     "cg_flag_raise": (c_bool, (_Flag,)),
-    "cg_flag_free": (c_bool, (_Flag,)),
+    "cg_flag_free": (c_bool, (POINTER(_Flag),)),
     "cg_num_commits": (c_uint32, (_Graph,)),
     "cg_id_len": (c_size_t, (_Graph,)),
     "cg_layer": (c_bool, (_Graph, c_uint64, POINTER(_Layer))),
@@ -343,7 +343,7 @@ CALLS = {
     "cg_merge_bases_of": (_Compared, (_Graph, POINTER(_Two), c_size_t, POINTER(_Bases), c_size_t, c_void_p, c_size_t)),
     "cg_write": (_WriteError, (_Graph, POINTER(_NewCommit), c_size_t, POINTER(_Bytes))),
     "cg_bytes_copy": (c_uint64, (_Bytes, c_uint64, c_void_p, c_size_t)),
-    "cg_bytes_free": (c_bool, (_Bytes,)),
+    "cg_bytes_free": (c_bool, (POINTER(_Bytes),)),
     "cg_chain_line": (_Line, (c_void_p, c_size_t, c_size_t)),
     "cg_strerror": (c_char_p, (c_uint32,)),
     "cg_advice": (c_char_p, (c_uint32,)),

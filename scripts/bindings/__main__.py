@@ -781,7 +781,7 @@ def python(library):
         return
     tests = module.with_name("test_commitgraph.py")
     done = run(sys.executable, "-B", tests, env={**os.environ, "COMMITGRAPH_LIB": str(library.parent)})
-    expect("Python: tests", done.returncode == 0 and "Ran 13 tests" in done.stderr, done)
+    expect("Python: tests", done.returncode == 0 and "Ran 14 tests" in done.stderr, done)
 
 
 def parts(archive, scratch, graphs):

@@ -28,7 +28,7 @@ INSTALLED = {
     *("lib/git-cgraph/scripts/locks.sh", "lib/git-cgraph/scripts/write.sh", "lib/git-cgraph/scripts/new_commits.awk"),
     *("lib/git-cgraph/scripts/guard.sh", "lib/git-cgraph/scripts/question.sh"),
     *("lib/git-cgraph/scripts/json.sh", "lib/git-cgraph/scripts/json.awk", "lib/git-cgraph/scripts/fields", "lib/git-cgraph/scripts/fields.awk"),
-    *("include/commitgraph.h", "include/commitgraph_path.h", "lib/libcommitgraph.a", "lib/libcommitgraph.so", "lib/libcommitgraph.so.0"),
+    *("include/commitgraph.h", "include/commitgraph_path.h", "lib/libcommitgraph.a", "lib/libcommitgraph.so", "lib/libcommitgraph.so.1"),
     *("lib/libcommitgraph.so." + version.number(), "lib/pkgconfig/commitgraph.pc", "share/man/man3/commitgraph.3"),
     *("lib/cmake/commitgraph/commitgraph-config.cmake", "lib/cmake/commitgraph/commitgraph-config-version.cmake"),
     *("share/doc/git-cgraph/LICENSE-MIT", "share/doc/git-cgraph/LICENSE-APACHE", "share/doc/git-cgraph/DIFFERENCES.md"),

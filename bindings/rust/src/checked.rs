@@ -67,8 +67,8 @@ impl Checked {
     /// `Check` with the first fault, for whose commit the files are read once more; or `OutOfMemory`. The graph is dropped then.
     pub fn of_graph(graph: Graph, options: VerifyOptions) -> Result<Checked, OpenError> {
         Checked::given_back(graph, options, |given, verdict, counts, raw| {
-            // SAFETY: `given` is open, and no copy of it is used from here on; `raw` is CG_CLOSED, and the other pointers are
-            // those of a value, and of an array of ROOM places.
+            // SAFETY: `given` is that of an open graph, which no copy of it outlives; `raw` is that of CG_CLOSED, and the other
+            // pointers are those of a value, and of an array of ROOM places.
             unsafe { sys::cg_check(given, options.distinct_ids, verdict, counts, ROOM, raw) }
         })
     }
@@ -90,14 +90,12 @@ impl Checked {
     fn given_back(
         mut graph: Graph,
         options: VerifyOptions,
-        check: impl FnOnce(sys::Graph, *mut sys::Verdict, *mut sys::Count, *mut sys::Graph) -> u32,
+        check: impl FnOnce(*mut sys::Graph, *mut sys::Verdict, *mut sys::Count, *mut sys::Graph) -> u32,
     ) -> Result<Checked, OpenError> {
         let mut counts = [sys::Count::default(); ROOM];
         let mut verdict = sys::Verdict::default();
-        let (mut raw, given, paths) = (sys::CLOSED, graph.raw, std::mem::take(&mut graph.paths));
-        // The call closes it.
-        std::mem::forget(graph);
-        match check(given, &mut verdict, counts.as_mut_ptr(), &mut raw) {
+        let (mut raw, paths) = (sys::CLOSED, std::mem::take(&mut graph.paths));
+        match check(&mut graph.raw, &mut verdict, counts.as_mut_ptr(), &mut raw) {
             codes::OK => Checked::found_right(Graph::of_raw(raw, paths), options, &verdict, &counts),
             codes::OUT_OF_MEMORY => Err(OpenError::OutOfMemory),
             codes::STOPPED => Err(OpenError::Stopped { pos: Position(verdict.position) }),

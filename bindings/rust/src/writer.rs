@@ -164,7 +164,7 @@ impl File {
 impl Drop for File {
     fn drop(&mut self) {
         // SAFETY: no copy of `raw` is used from here on.
-        unsafe { sys::cg_bytes_free(self.raw) };
+        unsafe { sys::cg_bytes_free(&mut self.raw) };
     }
 }
 
