@@ -352,8 +352,8 @@ uint64_t cg_lookup_all(cg_graph graph, const uint8_t *ids, size_t ids_len, size_
 size_t cg_id_at(cg_graph graph, uint32_t pos, uint8_t *out, size_t len);
 size_t cg_tree_at(cg_graph graph, uint32_t pos, uint8_t *out, size_t len);
 
-/* The bytes of an id that is lent, as many as cg_id_len says: they lie in the graph, stay as they are, and are gone once cg_close,
- * cg_check or cg_check_within is called with it. CG_NOT_LENT are none. */
+/* Bytes that are lent, and stay as they are. Those of an id, as many as cg_id_len says, lie in the graph, and are gone once cg_close,
+ * cg_check or cg_check_within is called with it. Those of cg_lend_bytes are gone once cg_bytes_free is. CG_NOT_LENT are none. */
 typedef struct cg_lent { const uint8_t *bytes; size_t len; } cg_lent;
 #if defined(__cplusplus) && __cplusplus >= 201103L
 #define CG_NOT_LENT (cg_lent{ reinterpret_cast<const uint8_t *>(""), 0 })
@@ -657,6 +657,10 @@ cg_write_error cg_write(cg_graph graph, const cg_new_commit *commits, size_t cou
 /* Copies bytes, from the one of number `start` on, as many as there is room for. Answers how many there are from there on, 0 past
  * their end and of CG_NO_BYTES: so with no room it answers how much is wanted, and copies nothing. */
 uint64_t cg_bytes_copy(cg_bytes bytes, uint64_t start, uint8_t *out, size_t len);
+
+/* Lends the bytes where they lie, so that they are written to a file, or opened by cg_open_lent, without a copy; false, and *out is
+ * left as it was, of CG_NO_BYTES. */
+bool cg_lend_bytes(cg_bytes bytes, cg_lent *out);
 
 /* Frees bytes, leaves CG_NO_BYTES where they were, and answers whether there were some: false of CG_NO_BYTES, with which nothing is
  * done. */

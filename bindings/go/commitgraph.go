@@ -14,6 +14,8 @@ package commitgraph
 #cgo pkg-config: commitgraph
 #include <commitgraph.h>
 #include <stdlib.h>
+
+static cg_lent not_lent(void) { return CG_NOT_LENT; }
 */
 import "C"
 
@@ -844,9 +846,9 @@ func write(below C.cg_graph, commits []NewCommit) ([]byte, error) {
 		return nil, err
 	}
 	defer C.cg_bytes_free(&file)
-	bytes := make([]byte, C.cg_bytes_copy(file, 0, at(nil), 0))
-	C.cg_bytes_copy(file, 0, at(bytes), C.size_t(len(bytes)))
-	return bytes, nil
+	lent := C.not_lent()
+	C.cg_lend_bytes(file, &lent)
+	return append([]byte{}, unsafe.Slice((*byte)(unsafe.Pointer(lent.bytes)), int(lent.len))...), nil
 }
 
 // handedIn lists commits for C, in memory of C's that the caller frees: C gets no pointer to memory of Go's that holds one. Their

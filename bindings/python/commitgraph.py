@@ -296,6 +296,10 @@ class _Bytes(ctypes.Structure):
     _fields_ = (("address", c_void_p), ("kept", c_bool))
 
 
+class _Lent(ctypes.Structure):
+    _fields_ = (("bytes", c_void_p), ("len", c_size_t))
+
+
 class _Flag(ctypes.Structure):
     _fields_ = (("address", c_void_p), ("kept", c_bool))
 
@@ -342,7 +346,7 @@ CALLS = {
     "cg_merge_bases_within": (_Bases, (_Graph, c_uint32, c_void_p, c_size_t, _Limit, c_void_p, c_size_t)),
     "cg_merge_bases_of": (_Compared, (_Graph, POINTER(_Two), c_size_t, POINTER(_Bases), c_size_t, c_void_p, c_size_t)),
     "cg_write": (_WriteError, (_Graph, POINTER(_NewCommit), c_size_t, POINTER(_Bytes))),
-    "cg_bytes_copy": (c_uint64, (_Bytes, c_uint64, c_void_p, c_size_t)),
+    "cg_lend_bytes": (c_bool, (_Bytes, POINTER(_Lent))),
     "cg_bytes_free": (c_bool, (POINTER(_Bytes),)),
     "cg_chain_line": (_Line, (c_void_p, c_size_t, c_size_t)),
     "cg_strerror": (c_char_p, (c_uint32,)),
@@ -683,16 +687,14 @@ def _written_file(below: _Graph, commits: Sequence[NewCommit]) -> bytes:
     handed, place = (_NewCommit * (len(commits) + 1))(), _at(ids)
     for one, to in zip(commits, handed):
         place = _hand_in(one, to, place)
-    file = _Bytes(None, False)
+    file, lent = _Bytes(None, False), _Lent(_at(b""), 0)
     told = _library.cg_write(below, handed, len(commits), file)
     if told.code:
         commit = _commit_at(below, told.position)[1] if _is_of_commit(told.code) else b""
         raise Error(told.code, told.layer, told.position, number=told.commit, other=told.other, commit=commit)
     try:
-        size = _library.cg_bytes_copy(file, 0, _at(b""), 0)
-        out = ctypes.create_string_buffer(size)
-        _library.cg_bytes_copy(file, 0, out, size)
-        return out.raw
+        _library.cg_lend_bytes(file, lent)
+        return ctypes.string_at(lent.bytes, lent.len)
     finally:
         _library.cg_bytes_free(file)
 

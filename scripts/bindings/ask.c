@@ -359,6 +359,8 @@ static uint8_t *copied(cg_bytes bytes, size_t *len) {
     copy[*len] = 7;
     if (cg_bytes_copy(bytes, 4, few, 4) != *len - 4 || few[4] != 7 || cg_bytes_copy(bytes, *len + 1, few + 4, 4) || few[4] != 7) exit(9);
     if (cg_bytes_copy(bytes, 0, copy, *len + 1) != *len || copy[*len] != 7 || memcmp(copy, "CGPH", 4) || memcmp(copy + 4, few, 4)) exit(9);
+    cg_lent lent = CG_NOT_LENT;
+    if (!cg_lend_bytes(bytes, &lent) || lent.len != *len || memcmp(lent.bytes, copy, *len)) exit(9);
     if (cg_bytes_copy(bytes, *len, few, 4) || !cg_bytes_free(&bytes) || bytes.address || bytes.kept || cg_bytes_free(&bytes)) exit(9);
     return copy;
 }
@@ -570,7 +572,7 @@ static bool closed_answers(void) {
     if (cg_lookup_all(CG_CLOSED, id, 20, 20, out, 1) || cg_ids_at(CG_CLOSED, out, 1, id, 20).code != CG_CLOSED_GRAPH) return false;
     if (cg_merge_bases_of(CG_CLOSED, &two, 1, &bases, 1, out, 1).code != CG_CLOSED_GRAPH || bases.code != 7) return false;
     if (!refuses(CG_CLOSED, NULL, 0, (cg_write_error){ .code = CG_WRITE_NOTHING })) return false;
-    if (cg_bytes_copy(CG_NO_BYTES, 0, id, 20) || !is_left_as_none()) return false;
+    if (cg_bytes_copy(CG_NO_BYTES, 0, id, 20) || cg_lend_bytes(CG_NO_BYTES, &lent) || lent.len || !is_left_as_none()) return false;
     if (cg_verify_layer(CG_CLOSED, 0, &alone) != CG_CLOSED_GRAPH || alone.code != CG_CLOSED_GRAPH || alone.byte) return false;
     if (cg_num_layers(CG_CLOSED) || cg_layer(CG_CLOSED, 0, &layer) || layer.first != 7) return false;
     if (cg_layer_checksum(CG_CLOSED, 0, id, 20) || cg_base_id_at(CG_CLOSED, 0, 0, id, 20)) return false;

@@ -225,7 +225,9 @@ static void write_again(cg_graph graph, uint32_t count) {
     agree(commits && !cg_write(CG_CLOSED, commits, count, &bytes).code);
     size_t len = (size_t)cg_bytes_copy(bytes, 0, NULL, 0);
     cg_file file = { room(len, 1), len, NULL, 0 };
-    agree(cg_bytes_copy(bytes, 0, (uint8_t *)(uintptr_t)file.bytes, len) == len && cg_bytes_free(&bytes));
+    cg_lent lent = CG_NOT_LENT;
+    agree(cg_bytes_copy(bytes, 0, (uint8_t *)(uintptr_t)file.bytes, len) == len && cg_lend_bytes(bytes, &lent));
+    agree(lent.len == len && !memcmp(lent.bytes, file.bytes, len) && cg_bytes_free(&bytes));
     cg_graph again = CG_CLOSED;
     cg_verdict verdict;
     agree(!cg_open_checked(&file, 1, true, &verdict, NULL, 0, &again).code && verdict.num_commits == count);

@@ -293,7 +293,9 @@ static outcome writing(cg_graph below, const cg_new_commit *commits, size_t coun
     cg_bytes bytes = { files, false };
     cg_write_error told = cg_write(below, commits, count, &bytes);
     if (told.code == CG_OK) {
+        cg_lent lent = CG_NOT_LENT;
         bool good = bytes.kept && cg_bytes_copy(bytes, 0, (uint8_t *)out, sizeof out) > 1100 && !memcmp(out, "CGPH", 4);
+        good = good && cg_lend_bytes(bytes, &lent) && lent.len > 1100 && !memcmp(lent.bytes, "CGPH", 4);
         return cg_bytes_free(&bytes) && good ? DONE : WRONG;
     }
     bool silent = !told.position && !told.commit && !told.other && !told.layer && !told.expected;

@@ -40,6 +40,8 @@ static uint64_t written(void) {
         for (uint64_t i = 0; i < count; i++) all = all * 31 + part[i];
         size += count;
     }
+    cg_lent lent = CG_NOT_LENT;
+    if (cg_lend_bytes(bytes, &lent)) all = all * 31 + lent.len + lent.bytes[lent.len - 1];
     return all * 31 + size + cg_bytes_free(&bytes);
 }
 

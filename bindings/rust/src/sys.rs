@@ -392,6 +392,7 @@ extern "C" {
     pub fn cg_ids_at(graph: Graph, positions: *const u32, count: usize, out: *mut u8, len: usize) -> Answered;
     pub fn cg_write(graph: Graph, commits: *const NewCommit, count: usize, out: *mut Bytes) -> WriteError;
     pub fn cg_bytes_copy(bytes: Bytes, start: u64, out: *mut u8, len: usize) -> u64;
+    pub fn cg_lend_bytes(bytes: Bytes, out: *mut Lent) -> bool;
     pub fn cg_bytes_free(bytes: *mut Bytes) -> bool;
 }
 
