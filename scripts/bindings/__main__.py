@@ -54,6 +54,14 @@ IN_HEADER = {"cg_strerror", "cg_advice", "cg_closed", "cg_no_bytes", "cg_no_flag
 """Functions that the header has whole."""
 SENTENCES = ("cg_strerror", "cg_advice")
 """Those of them that the library has too."""
+DECLARED = re.compile(r"^(?:CG_NODISCARD )?[\w ]+ (cg_\w+)\(([^;]*?)\)(?: CG_NONNULL\(\(.*\)\))?;$", re.MULTILINE | re.DOTALL)
+"""A call that the header declares, and what it takes."""
+MAY_BE_IGNORED = {
+    *("cg_close", "cg_flag_raise", "cg_flag_free", "cg_bytes_free", "cg_bytes_copy", "cg_verify", "cg_verify_layer", "cg_layer"),
+    *("cg_layer_checksum", "cg_base_id_at", "cg_lookup_all", "cg_id_at", "cg_tree_at", "cg_lend_id", "cg_lend_tree", "cg_lend_bytes"),
+    *("cg_commit_at", "cg_commits"),
+}
+"""Calls whose answer stands in an out parameter too, or may be known before."""
 STRICT = ["-D_GNU_SOURCE", "-Wall", "-Wextra", "-Wpedantic", "-Werror"]
 COUNTING = threading.Lock()
 LATER = later.Later()
@@ -146,6 +154,29 @@ def sentences(library):
         expect(f"the library's sentences of {name}", told == (happened[name], advice), told)
     unknown = {(loaded.cg_strerror(number), loaded.cg_advice(number)) for number in range(1000) if number not in numbers.values()}
     expect("the library's sentence of numbers that are not known", unknown == {(b"a number that is not known", b"")}, unknown)
+
+
+def warned_of(compiler, scratch):
+    """Where the answer of a call is ignored, or a pointer is NULL that may not be, the compiler warns, and nowhere else."""
+    lines, wanted = ['#include "commitgraph.h"'], {"unused-result": set(), "nonnull": set()}
+    for call, taken in DECLARED.findall((HEADER / "commitgraph.h").read_text()):
+        taken = [" ".join(one.split()) for one in taken.split(",")]
+        names = [re.search(r"\w+$", one).group() if one != "void" else "" for one in taken]
+        tried = [(number, one) for number, one in enumerate(taken) if "*" in one]
+        for number, given in [(None, names), *((number, [*names[:number], "NULL", *names[number + 1 :]]) for number, _ in tried)]:
+            made = f"try_{call}_{len(lines)}({', '.join(taken)})"
+            lines.append(f"void {made}; void {made} {{ {call}({', '.join(given)}); }}")
+            if call not in MAY_BE_IGNORED:
+                wanted["unused-result"].add(len(lines))
+            if number is not None and not any(after.startswith("size_t ") for after in taken[number + 1 : number + 2]):
+                wanted["nonnull"].add(len(lines))
+    source = scratch / compiler / "warned.c"
+    source.write_text("\n".join(lines) + "\n")
+    done = run(compiler, "-std=c11", "-O1", "-Wall", "-Wno-unused-parameter", f"-I{HEADER}", "-c", source, "-o", os.devnull)
+    for kind, expected in wanted.items():
+        told = {int(line) for line in re.findall(rf"^\S+?:(\d+):\d+: warning: .*\[-W{kind}\]$", done.stderr, re.MULTILINE)}
+        lacking = [lines[line - 1] for line in sorted(told ^ expected)]
+        expect(f"{compiler}: what it warns of, {kind}", done.returncode == 0 and told == expected, (lacking[:3], done.stderr[-2000:]))
 
 
 def git(where, *words):
@@ -571,6 +602,7 @@ def c(compiler, archive, scratch, graphs):
         elif present("valgrind", "valgrind"):
             nothing_left(name, program, scratch, graphs)
     fields(compiler, compiler, archive, scratch)
+    warned_of(compiler, scratch)
     refused_and_shared(compiler, compiler, archive, scratch, graphs)
     example(compiler, archive, scratch, graphs)
     opened_path(compiler, archive, scratch, graphs)
