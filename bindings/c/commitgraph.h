@@ -661,8 +661,9 @@ typedef struct cg_write_error { uint32_t code, position; uint64_t commit, other,
  * was. What *out was before is not freed: let it be CG_NO_BYTES. The file's checksum, by which the file of a chain is named
  * graph-X.graph, is its last cg_id_len bytes.
  *
- * The layer is made once, in this call, whose memory is some 70 bytes a commit besides the file, and 16 for each commit of the graph
- * below; the bytes wait in *out. */
+ * The layer is made once, in this call, whose memory is at most some 65 bytes a commit besides the file, and 24 for each commit of the
+ * graph below, or 16 where that has no corrected dates. A commit of more than two parents takes 8 more for each further one; of ids of
+ * SHA-256, and of filters below, none takes more. The bytes wait in *out. */
 CG_NODISCARD cg_write_error cg_write(cg_graph graph, const cg_new_commit *commits, size_t count, cg_bytes *out) CG_NONNULL((4));
 
 /* Copies bytes, from the one of number `start` on, as many as there is room for. Answers how many there are from there on, 0 past

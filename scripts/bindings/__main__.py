@@ -337,6 +337,22 @@ def refused_and_shared(name, compiler, archive, scratch, graphs):
             expect(f"{name}: four threads {' '.join(flags) or tool}", done.returncode == 0, done)
 
 
+def memory_to_write(compiler, archive, scratch):
+    """What `cg_write` takes at most besides the file, for one layer and on top of others, is what its comment in the header says."""
+    header = " ".join((HEADER / "commitgraph.h").read_text().replace("\n *", "").split())
+    said = re.search(r"whose memory is at most some (\d+) bytes a commit besides the file, and (\d+) for each commit of the graph below", header)
+    expect("the header says what cg_write takes", said)
+    new, below = map(int, said.groups()) if said else (0, 0)
+    program = scratch / compiler / "peak"
+    done = run(compiler, "-std=c11", "-O1", *STRICT, f"-I{HEADER}", HERE / "peak.c", *REFUSING, archive, "-o", program)
+    expect(f"{compiler}: peak.c", done.returncode == 0, done.stderr)
+    for size in (20, 32):
+        for count, before, least in ((131_073, 0, new * 131_073), (100, 100_000, below * 100_000), (50_000, 50_000, 0)):
+            done = run(program, size, count, before)
+            told, most = int(done.stdout or -1), new * count + below * before
+            expect(f"{compiler}: what cg_write takes for {count} commits on {before}, ids of {size} bytes", 0.9 * least <= told <= 1.02 * most, (told, most))
+
+
 def layers_of(where):
     """The files of the layers of a chain, the lowest first."""
     folder = where / ".git/objects/info/commit-graphs"
@@ -603,6 +619,7 @@ def c(compiler, archive, scratch, graphs):
             nothing_left(name, program, scratch, graphs)
     fields(compiler, compiler, archive, scratch)
     warned_of(compiler, scratch)
+    memory_to_write(compiler, archive, scratch)
     refused_and_shared(compiler, compiler, archive, scratch, graphs)
     example(compiler, archive, scratch, graphs)
     opened_path(compiler, archive, scratch, graphs)
