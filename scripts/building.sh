@@ -10,7 +10,8 @@
 out=$top/crates/commitgraph_c/out
 archive=$out/libcommitgraph.a
 shared=$out/libcommitgraph.so
-soname=libcommitgraph.so.0
+header=$top/bindings/c/commitgraph.h
+soname=libcommitgraph.so.1
 
 # Prints the path of what is proved: of a program, or of the library with all of its names.
 proved() {
@@ -29,7 +30,8 @@ is_current() {
 
 # Whether the library is there with the names of the calls alone, of what is proved now.
 is_merged() {
-    is_current commitgraph_c && [ -f "$archive" ] && [ -f "$shared" ] && [ ! "$(proved commitgraph_c)" -nt "$archive" ]
+    is_current commitgraph_c && [ -f "$archive" ] && [ -f "$shared" ] && [ ! "$(proved commitgraph_c)" -nt "$archive" ] &&
+        [ ! "$header" -nt "$archive" ]
 }
 
 # Ends where some command is missing: before the proofs, which take minutes.
@@ -45,18 +47,26 @@ need() {
     done
 }
 
-# Puts what was proved and the kit's heap into one object, whose only names for others are those of the calls, and that
-# into an archive and a shared library.
+# The calls that the header has whole, for programs in other languages. The kit's compiler has no headers of the C library.
+sentences() {
+    echo 'typedef unsigned int uint32_t; int strcmp(const char *, const char *);'
+    sed -n '/^enum cg_code {/,/^};/p; /^static inline const char \*cg_/,/^}/p' "$header" | sed 's/^static inline //'
+}
+
+# Puts what was proved, the kit's heap and the sentences into one object, whose only names for others are those of the calls,
+# and that into an archive and a shared library.
 merge() (
+    kit=$(dirname "$(rt doc)")
     cd "$out"
-    ld -r --whole-archive libcommitgraph_c.a "$(dirname "$(rt doc)")/c/liblibc_c.a" -o merged.o
+    sentences | "$kit/toolchain/bin/clang" -x c -O2 -fPIC -c - -o sentences.o
+    ld -r --whole-archive libcommitgraph_c.a "$kit/c/liblibc_c.a" sentences.o -o merged.o
     objcopy --wildcard --keep-global-symbol='cg_*' merged.o
     ld -shared -soname $soname -z noexecstack -z relro -z now merged.o -o new.so
     rm -f new.a
     ar rcD new.a merged.o
     mv new.so libcommitgraph.so
     mv new.a libcommitgraph.a
-    rm merged.o
+    rm merged.o sentences.o
 )
 
 # Proves and builds what is not built yet, or older than a source.

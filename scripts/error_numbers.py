@@ -67,7 +67,6 @@ IN_HEADER = re.compile(r"^    CG_(\w+) = (\d+)", re.MULTILINE)
 SENTENCE = re.compile(r'^    case CG_(\w+): return "(.+)";$', re.MULTILINE)
 IN_RUST = re.compile(r"^pub\(crate\) const (\w+): u32 = (\d+);$", re.MULTILINE)
 IN_PYTHON = re.compile(r"^    ([A-Z]\w+) = (\d+)$", re.MULTILINE)
-IN_PYTHON_SAID = re.compile(r'^    Code\.(\w+): "(.+)",$', re.MULTILINE)
 IN_SPECS = re.compile(
     r"^(?:\w+_code \S.* = |refusal_of \S.* = refusal_in_\w+ |told_\w+_fault \(.* = without_\w+ |told_write .* = write_code |told_mismatch .* = (?:matched_code |record \{ code = ))(\d+)\b"
     r"|^(?:out_of_memory|closed_graph|not_checked|no_such_position|path_not_utf8|no_dates|more_parents|path_wanted|no_such_layer|stopped|no_ids) = (\d+)$",
@@ -109,8 +108,6 @@ def wrong_codes(texts):
         yield "%s has not one number and one sentence for each name" % HEADER
     if [(name, int(number)) for name, number in IN_PYTHON.findall(texts[PYTHON])] != header:
         yield "%s has other numbers than the header" % PYTHON
-    if IN_PYTHON_SAID.findall(texts[PYTHON].partition("ADVICE = {")[0]) != sentences:
-        yield "%s has other sentences than the header" % PYTHON
     for name, number in IN_RUST.findall(texts[RUST]):
         if (name, int(number)) not in header:
             yield "%s: %s is not %s in the header" % (RUST, name, number)
@@ -135,7 +132,7 @@ LINES = {
 
 def advice(row):
     """What the library says to do about a row of the document: the programs say the part on writing anew by itself."""
-    anew = next(one.happened for one in refusals.read_rows() if one.text == refusals.ANEW)
+    anew = next(one.happened for one in refusals.read_rows() if one.text == "cg_advice")
     if row.to_do == refusals.ANEW:
         return anew
     if row.to_do.endswith(refusals.ANEW):
@@ -168,7 +165,7 @@ def text_of(literals):
 
 
 def wrong_advice(texts):
-    """Where the header says to do another thing about a number than the document, or Python or Rust another one than the header."""
+    """Where the header says to do another thing about a number than the document, or Rust another one than the header."""
     said, anew = advised_in_header(texts[HEADER])
     rows = refusals.read_rows()
     names = [(name, int(number)) for name, number in IN_HEADER.findall(texts[HEADER]) if int(number) > 20]
@@ -177,25 +174,8 @@ def wrong_advice(texts):
         row = row_of(rows, name, number)
         if row is None or advice(row) != told[name]:
             yield "%s says of %s to do %r, and %s %r" % (HEADER, name, told[name], REFUSALS, row and advice(row))
-    if advised_in_python(texts[PYTHON]) != said:
-        yield "%s says to do other things than the header" % PYTHON
     rust = texts[ADVICE_IN_RUST]
     own = text_of(re.sub(r"\\\n\s+", "", re.search(r"=> \{(.*?)\}", rust, re.DOTALL).group(1)))
     for literals in re.findall(r"pub\(crate\) const \w+: &str = (.*?);$", rust, re.MULTILINE | re.DOTALL):
         if text_of(re.sub(r"\\\n\s+", "", literals).replace("anew!()", '"%s"' % own)) not in {anew, *said.values()}:
             yield "%s says to do what the header does not: %s" % (ADVICE_IN_RUST, literals)
-
-
-def advised_in_python(text):
-    """The table of what to do, by the names of its numbers."""
-    made = {}
-    for one in ast.parse(text).body:
-        if isinstance(one, ast.Assign) and getattr(one.targets[0], "id", "") in ("ANEW", "FILTERS", "ADVICE"):
-            made[one.targets[0].id] = one.value
-
-    def value(node):
-        if isinstance(node, ast.BinOp):
-            return value(node.left) + value(node.right)
-        return value(made[node.id]) if isinstance(node, ast.Name) else node.value
-
-    return {key.attr: value(node) for key, node in zip(made["ADVICE"].keys, made["ADVICE"].values)}

@@ -176,8 +176,7 @@ static void measure(const char *name, const inputs *in, char **paths, size_t cou
     report(name, "integrity", start, integrity(graph));
     start = now();
     report(name, "calls", start, calls(graph));
-    cg_close(graph);
-    graph = CG_CLOSED;
+    cg_close(&graph);
     cg_verdict verdict;
     cg_count counts[1];
     start = now();
@@ -185,12 +184,11 @@ static void measure(const char *name, const inputs *in, char **paths, size_t cou
     report(name, "open_checked", start, (seen){ 1, cg_num_commits(graph) });
     queries(name, "any", graph, in->pairs[0]);
     queries(name, "newest", graph, in->pairs[1]);
-    cg_close(graph);
-    graph = CG_CLOSED;
+    cg_close(&graph);
     start = now();
     if (cg_open_lent(files, count, &graph).code) exit(1);
     report(name, "open_lent", start, (seen){ 1, cg_num_commits(graph) });
-    cg_close(graph);
+    cg_close(&graph);
     for (size_t i = 0; i < count; i++) free((void *)files[i].bytes);
 }
 

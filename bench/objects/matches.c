@@ -25,7 +25,7 @@ int main(int argc, char **argv) {
         next = line + 1 + len + 1;
     }
     printf("matches %" PRIu64 " %" PRIu32 " %" PRIu64 "\n", now() - start, count, codes);
-    cg_close(graph);
+    cg_close(&graph);
     free(layer.bytes);
     free(stream.bytes);
     return codes != 0;

@@ -1,17 +1,19 @@
 /* Reads, checks and writes the commit-graph files of Git.
  *
  * The calls below are the proved code of Nolavimure, compiled: they read no byte out of bounds, never abort and always
- * return, for all bytes of files and all numbers, if the caller keeps the rules here. Nothing checks that a caller does.
+ * return, for all bytes of files and all numbers, if the caller keeps the rules here. Nothing checks that a caller does. Only
+ * cg_strerror and cg_advice, which answer texts, are plain C.
  *
  * Rules for all calls
  * - A pointer is valid for the length beside it. Beside a length of 0 it may be NULL (this is tested; the proofs speak of pointers
- *   that are not null). No other pointer may be NULL. What a call writes does not overlap what it reads, and what it reads does
- *   not change until it returns (a mapped file can change: see cg_open).
- * - A cg_graph is CG_CLOSED, or a copy of what cg_open, cg_open_lent, cg_open_known, cg_open_checked, cg_check or cg_check_within
- *   wrote, and none of cg_close, cg_check and cg_check_within was yet given it. All copies are one graph. Nobody looks into it or
- *   changes it.
+ *   that are not null). No other pointer may be NULL. What a call writes overlaps neither what it reads nor what else it writes, and
+ *   what it reads does not change until it returns (a mapped file can change: see cg_open).
+ * - A cg_graph is CG_CLOSED, or what cg_open, cg_open_lent, cg_open_known, cg_open_checked, cg_check or cg_check_within wrote, or a
+ *   copy of that. All copies are one graph. Nobody looks into it or changes it. cg_close, cg_check and cg_check_within take the
+ *   graph that they are handed, and leave CG_CLOSED where it was, also where a check refuses it: to close that once more does
+ *   nothing. No other copy of the graph is used after that.
  * - Threads: any number of calls may read one graph at a time, and none waits for another. cg_close, or cg_check, or
- *   cg_check_within, is called once, when no call on the graph is running, and none follows.
+ *   cg_check_within, is called when no call on the graph is running.
  * - No call keeps a pointer that it was given, but cg_open_lent those to the bytes. No call is made from a signal handler, or in
  *   the child of a process with threads before it execs. Memory comes from malloc, realloc and free.
  * - What an out parameter holds before a call does not matter, but for the cg_graph, the cg_bytes or the cg_flag that a call hands
@@ -23,9 +25,9 @@
  * file. A lookup goes over the layers from the lowest on, and searches each by halves; a call for a position finds its layer by
  * halves; one for a layer counts those below it. Writing into a room costs what is written. Comments say where a call costs more.
  *
- * The library is for x86-64 Linux. Link with libcommitgraph.a or libcommitgraph.so.0; memory comes from the program's malloc.
- * Until version 1.0, a program is built with the header of the library that it is linked with: structs and numbers may change
- * with the second number of the version, and with it the number of libcommitgraph.so. They do not with the third.
+ * The library is for x86-64 Linux. Link with libcommitgraph.a or libcommitgraph.so.1; memory comes from the program's malloc.
+ * Until version 1.0, a program is built with the header of the library that it is linked with: calls, structs and numbers may
+ * change with the second number of the version, and with it the number of libcommitgraph.so. They do not with the third.
  */
 #ifndef COMMITGRAPH_H
 #define COMMITGRAPH_H
@@ -39,11 +41,22 @@
 extern "C" {
 #endif
 
+/* By these gcc and clang warn where nobody looks at the answer of a call, and where a pointer is NULL that may not be. The first one is
+ * left out where the answer stands in an out parameter too, and where the caller may know it before: that something is written, or
+ * freed. */
+#if defined(__GNUC__)
+#define CG_NODISCARD __attribute__((warn_unused_result))
+#define CG_NONNULL(places) __attribute__((nonnull places))
+#else
+#define CG_NODISCARD
+#define CG_NONNULL(places)
+#endif
+
 /* The version of this header, 0.1.0: 10000 for the first number, 100 for the second and 1 for the third. */
 #define CG_VERSION 100
 
 /* The version of the library, which has to be CG_VERSION. */
-uint32_t cg_version(void);
+CG_NODISCARD uint32_t cg_version(void);
 
 /* Each cause has one number, the same in all calls; cg_strerror (below) has a sentence for it, and cg_advice says what to do, as
  * docs/REFUSALS.md does. */
@@ -200,7 +213,7 @@ typedef struct cg_error { uint32_t code; uint64_t layer; } cg_error;
  * before it is copied. All that is read of a graph is read of the copy: where a mapped file changes meanwhile, the graph is one of
  * the bytes that were copied, but no proof says so. A mapped file that gets shorter meanwhile ends the program by SIGBUS, as any read
  * of it does. Whoever fears a change reads the file instead. */
-cg_error cg_open(const cg_file *files, size_t count, cg_graph *out);
+CG_NODISCARD cg_error cg_open(const cg_file *files, size_t count, cg_graph *out) CG_NONNULL((3));
 
 /* Opens the graph as cg_open does, and answers as it does, but copies none of the bytes that it is lent. The paths are copied. The bytes
  * have to stay where they are, unchanged, as long as the graph is open: until cg_close has returned, or a cg_check or cg_check_within
@@ -209,7 +222,7 @@ cg_error cg_open(const cg_file *files, size_t count, cg_graph *out);
  * Every promise is about bytes that do not change. If another process changes a mapped file after the call, no promise holds any
  * more: a call may read outside the graph's memory. If the file gets shorter, a call may end the program by SIGBUS. So lend what
  * nobody writes, or a copy of your own. Git never changes a commit-graph file in place: it writes a new file and renames it. */
-cg_error cg_open_lent(const cg_file *files, size_t count, cg_graph *out);
+CG_NODISCARD cg_error cg_open_lent(const cg_file *files, size_t count, cg_graph *out) CG_NONNULL((3));
 
 /* What cg_open_known is to open. */
 enum cg_place { CG_ANYTHING = 0, CG_FILE = 1, CG_CHAIN_FOLDER = 2, CG_INFO_FOLDER = 3 };
@@ -259,8 +272,8 @@ typedef struct cg_path_error { uint32_t code; uint64_t layer, length; } cg_path_
  * On CG_OK *out is the graph of the bytes that were handed in. It is the caller's to close, and no check has seen it: see cg_check.
  * The bytes are copied. A file that is to be the only layer, and is none, is refused before that. On another code *out is left as it
  * was, and `file` gets the path that is told, as much of it as there is room for. */
-cg_path_error cg_open_known(const char *path, size_t path_len, uint32_t what, const cg_known *known, size_t count,
-                            char *file, size_t file_len, cg_graph *out);
+CG_NODISCARD cg_path_error cg_open_known(const char *path, size_t path_len, uint32_t what, const cg_known *known, size_t count,
+                                         char *file, size_t file_len, cg_graph *out) CG_NONNULL((8));
 
 /* Opens the graph and checks it, as cg_verify does. *verdict is always written, and has the code of the error: on CG_OK the
  * statistics, and then `counts` is written as by cg_verify; on 301 to 399 the fault; elsewhere code and layer alone. Only a graph that
@@ -269,14 +282,15 @@ cg_path_error cg_open_known(const char *path, size_t path_len, uint32_t what, co
  * cg_open. */
 struct cg_verdict;
 struct cg_count;
-cg_error cg_open_checked(const cg_file *files, size_t count, bool distinct_ids, struct cg_verdict *verdict,
-                         struct cg_count *counts, size_t counts_len, cg_graph *out);
+CG_NODISCARD cg_error cg_open_checked(const cg_file *files, size_t count, bool distinct_ids, struct cg_verdict *verdict,
+                                      struct cg_count *counts, size_t counts_len, cg_graph *out) CG_NONNULL((4, 7));
 
-/* Checks a graph, as cg_verify does, and hands it out in *out as cg_open_checked does: no file is read again. The graph that is
- * passed is given back as to cg_close, also where it is refused. Answers the verdict's code, and *verdict is always written: its
- * codes are those of cg_verify, and `called` is 0 where it is not CG_OK. Then *out is left as it was, and `counts` too. */
-uint32_t cg_check(cg_graph graph, bool distinct_ids, struct cg_verdict *verdict, struct cg_count *counts, size_t counts_len,
-                  cg_graph *out);
+/* Checks a graph, as cg_verify does, and hands it out in *out as cg_open_checked does: no file is read again. *graph is CG_CLOSED
+ * after that. Where the graph is refused, it is closed as by cg_close; then *out is left as it was, and `counts` too. So cg_close of
+ * both is right in any case. Answers the verdict's code, and *verdict is always written: its codes are those of cg_verify, and
+ * `called` is 0 where it is not CG_OK. `graph` and `out` are the addresses of two graphs. */
+CG_NODISCARD uint32_t cg_check(cg_graph *graph, bool distinct_ids, struct cg_verdict *verdict, struct cg_count *counts,
+                               size_t counts_len, cg_graph *out) CG_NONNULL((1, 3, 6));
 
 /* A flag that stops calls, or none. It follows the rules for a cg_graph, with cg_flag_free in place of cg_close. A thread may raise it
  * while calls of others look at it. No call takes a function of the caller's in its place: the proofs could not speak of it. */
@@ -292,14 +306,14 @@ static inline cg_flag cg_no_flag() { cg_flag none = { NULL, false }; return none
 
 /* Makes a flag, which is not raised. On CG_OK *out is the flag, which is the caller's to free; on CG_OUT_OF_MEMORY *out is left as it
  * was. */
-uint32_t cg_flag_new(cg_flag *out);
+CG_NODISCARD uint32_t cg_flag_new(cg_flag *out) CG_NONNULL((1));
 
 /* Raises a flag, for good: calls that look at it stop, and so do later ones. A call that has no commit to visit does not look at it,
  * and still answers. Answers whether there was one. */
 bool cg_flag_raise(cg_flag flag);
 
-/* Frees a flag, and answers whether there was one: false of CG_NO_FLAG, with which nothing is done. */
-bool cg_flag_free(cg_flag flag);
+/* Frees a flag, leaves CG_NO_FLAG where it was, and answers whether there was one: false of CG_NO_FLAG, with which nothing is done. */
+bool cg_flag_free(cg_flag *flag) CG_NONNULL((1));
 
 /* When a call stops before its end: how many commits it may visit, and a flag, or CG_NO_FLAG, at which it looks before it reads the
  * parents of each, or goes on past each. A call that stops answers CG_STOPPED, and writes only what it writes when it is refused for
@@ -307,29 +321,29 @@ bool cg_flag_free(cg_flag flag);
 typedef struct cg_limit { uint64_t visits; cg_flag flag; } cg_limit;
 
 /* Checks a graph as cg_check does, unless the limit stops the check. It visits the commits in their order, so that CG_STOPPED tells the
- * first one, at `position`, that it did not go on with. The digest of a file, which comes before its commits, is not stopped. The
- * graph that is passed is given back then too. */
-uint32_t cg_check_within(cg_graph graph, bool distinct_ids, cg_limit limit, struct cg_verdict *verdict, struct cg_count *counts,
-                         size_t counts_len, cg_graph *out);
+ * first one, at `position`, that it did not go on with. The digest of a file, which comes before its commits, is not stopped. A
+ * graph whose check is stopped is closed too. */
+CG_NODISCARD uint32_t cg_check_within(cg_graph *graph, bool distinct_ids, cg_limit limit, struct cg_verdict *verdict,
+                                      struct cg_count *counts, size_t counts_len, cg_graph *out) CG_NONNULL((1, 4, 7));
 
-/* Frees a graph, and answers whether there was one: false of CG_CLOSED, with which nothing is done. */
-bool cg_close(cg_graph graph);
+/* Frees a graph, leaves CG_CLOSED where it was, and answers whether there was one: false of CG_CLOSED, with which nothing is done. */
+bool cg_close(cg_graph *graph) CG_NONNULL((1));
 
 /* The number of commits; 0 of CG_CLOSED. */
-uint32_t cg_num_commits(cg_graph graph);
+CG_NODISCARD uint32_t cg_num_commits(cg_graph graph);
 
 /* The number of bytes of an id: 20 of SHA-1, 32 of SHA-256; 0 of CG_CLOSED. */
-size_t cg_id_len(cg_graph graph);
+CG_NODISCARD size_t cg_id_len(cg_graph graph);
 
 /* The number of layers, which count from the lowest; 0 of CG_CLOSED. */
-uint64_t cg_num_layers(cg_graph graph);
+CG_NODISCARD uint64_t cg_num_layers(cg_graph graph);
 
 /* A layer: the position of its first commit, the number of its commits and of its base ids, and its kind of hash: 1 is SHA-1,
  * and 2 is SHA-256. The positions of a layer are those from `first` on. */
 typedef struct cg_layer_info { uint32_t first, num_commits, bases, hash; } cg_layer_info;
 
 /* Writes what is told of a layer; false, and nothing, where there is none, and for CG_CLOSED. */
-bool cg_layer(cg_graph graph, uint64_t layer, cg_layer_info *out);
+bool cg_layer(cg_graph graph, uint64_t layer, cg_layer_info *out) CG_NONNULL((3));
 
 /* Writes the checksum that ends a layer's file, or its base id of a number, which counts from 0, as cg_id_at writes an id. */
 size_t cg_layer_checksum(cg_graph graph, uint64_t layer, uint8_t *out, size_t len);
@@ -337,7 +351,7 @@ size_t cg_base_id_at(cg_graph graph, uint64_t layer, uint64_t index, uint8_t *ou
 
 /* The position of an id, or CG_NOWHERE: for a length other than 20 or 32 too, and for CG_CLOSED. A position that is answered
  * holds the id. In a graph that cg_verify found right it is the least that does, and CG_NOWHERE means that none does. */
-uint32_t cg_lookup(cg_graph graph, const uint8_t *id, size_t len);
+CG_NODISCARD uint32_t cg_lookup(cg_graph graph, const uint8_t *id, size_t len);
 
 /* Looks up many ids of `id_len` bytes each, which stand one after another, and writes the position of each, or CG_NOWHERE, as
  * cg_lookup answers it, as many as there is room for. Answers how many ids there are; 0, and writes nothing, for an `id_len` other
@@ -349,8 +363,8 @@ uint64_t cg_lookup_all(cg_graph graph, const uint8_t *ids, size_t ids_len, size_
 size_t cg_id_at(cg_graph graph, uint32_t pos, uint8_t *out, size_t len);
 size_t cg_tree_at(cg_graph graph, uint32_t pos, uint8_t *out, size_t len);
 
-/* The bytes of an id that is lent, as many as cg_id_len says: they lie in the graph, stay as they are, and are gone once cg_close,
- * cg_check or cg_check_within is called with it. CG_NOT_LENT are none. */
+/* Bytes that are lent, and stay as they are. Those of an id, as many as cg_id_len says, lie in the graph, and are gone once cg_close,
+ * cg_check or cg_check_within is called with it. Those of cg_lend_bytes are gone once cg_bytes_free is. CG_NOT_LENT are none. */
 typedef struct cg_lent { const uint8_t *bytes; size_t len; } cg_lent;
 #if defined(__cplusplus) && __cplusplus >= 201103L
 #define CG_NOT_LENT (cg_lent{ reinterpret_cast<const uint8_t *>(""), 0 })
@@ -363,8 +377,8 @@ static inline cg_lent cg_not_lent() { cg_lent none = { reinterpret_cast<const ui
 
 /* Lends the id at a position, or that of its commit's root tree; false, and *out is left as it was, for a position that is none, and
  * for CG_CLOSED. */
-bool cg_lend_id(cg_graph graph, uint32_t pos, cg_lent *out);
-bool cg_lend_tree(cg_graph graph, uint32_t pos, cg_lent *out);
+bool cg_lend_id(cg_graph graph, uint32_t pos, cg_lent *out) CG_NONNULL((3));
+bool cg_lend_tree(cg_graph graph, uint32_t pos, cg_lent *out) CG_NONNULL((3));
 
 /* How many of many questions were answered, by a call for positions or for pairs. `code` is
  *   CG_CLOSED_GRAPH; else
@@ -377,17 +391,17 @@ typedef struct cg_answered { uint32_t code; uint64_t answered; } cg_answered;
 
 /* Writes the ids at many positions, one after another, each of cg_id_len bytes: there is room for `len` / cg_id_len of them. It costs
  * what so many calls of cg_id_at cost. */
-cg_answered cg_ids_at(cg_graph graph, const uint32_t *positions, size_t count, uint8_t *out, size_t len);
+CG_NODISCARD cg_answered cg_ids_at(cg_graph graph, const uint32_t *positions, size_t count, uint8_t *out, size_t len);
 
 /* What a commit's record says: the committer's time in seconds since 1970-01-01 00:00:00 UTC, and the generation number. */
 typedef struct cg_commit { uint64_t time; uint32_t generation; } cg_commit;
 
 /* Writes what the record at a position says; false, and nothing, where there is none, and for CG_CLOSED. */
-bool cg_commit_at(cg_graph graph, uint32_t pos, cg_commit *out);
+bool cg_commit_at(cg_graph graph, uint32_t pos, cg_commit *out) CG_NONNULL((3));
 
 /* The generation number of the commit at a position: nothing else of it is read. It is 0 where there is no such position, and for
  * CG_CLOSED; in a checked graph no commit has 0. */
-uint32_t cg_generation_at(cg_graph graph, uint32_t pos);
+CG_NODISCARD uint32_t cg_generation_at(cg_graph graph, uint32_t pos);
 
 /* What the records say from the position `first` on, as many as there is room for. Answers how many commits there are from there on,
  * 0 where `first` is none and for CG_CLOSED: min(answer, len) of them were written. */
@@ -401,13 +415,13 @@ typedef struct cg_parent_count { uint32_t code; uint64_t count; } cg_parent_coun
 
 /* Writes the positions of a commit's parents, the first parent first, as many as there is room for. It goes over all parents,
  * also over those that find no room, to count them. */
-cg_parent_count cg_parents(cg_graph graph, uint32_t pos, uint32_t *out, size_t len);
+CG_NODISCARD cg_parent_count cg_parents(cg_graph graph, uint32_t pos, uint32_t *out, size_t len);
 
 /* Writes the same, and stops where the room ends: `count` is the number of parents that were written, and `code` is
  * CG_MORE_PARENTS where more come after them. Its cost is that of so many steps as there is room for: for the first parent
  * alone, room for one. Many commits may share one long list of parents: cg_parents then goes over the list for each of them, and this
  * call does not. */
-cg_parent_count cg_first_parents(cg_graph graph, uint32_t pos, uint32_t *out, size_t len);
+CG_NODISCARD cg_parent_count cg_first_parents(cg_graph graph, uint32_t pos, uint32_t *out, size_t len);
 
 /* A commit's first parent: its position, or CG_NOWHERE with the code
  *   CG_OK                  where the commit has no parent;
@@ -417,7 +431,7 @@ typedef struct cg_parent { uint32_t code, position; } cg_parent;
 
 /* The first parent of a commit. What the commit's record says of the others is not told. It reads one record, and is the fastest way
  * along first parents. */
-cg_parent cg_first_parent(cg_graph graph, uint32_t pos);
+CG_NODISCARD cg_parent cg_first_parent(cg_graph graph, uint32_t pos);
 
 /* Of how many commits a block tells, and how many parents they have. */
 typedef struct cg_block { uint32_t commits; uint64_t length; } cg_block;
@@ -429,8 +443,8 @@ typedef struct cg_block { uint32_t commits; uint64_t length; } cg_block;
  *
  * The call goes over all parents of the commits of its block. Of the last one it also counts those that find no room. So let there
  * be room for many commits and their parents: where commits share a long list, a call for each of them goes over it each time. */
-cg_block cg_parents_from(cg_graph graph, uint32_t first, cg_parent_count *answers, size_t answers_len,
-                         uint32_t *out, size_t len);
+CG_NODISCARD cg_block cg_parents_from(cg_graph graph, uint32_t first, cg_parent_count *answers, size_t answers_len,
+                                      uint32_t *out, size_t len);
 
 /* What a check found. `code` is CG_OK where the graph is right: `num_commits` is the number of commits, `longest` that of the
  * edges of the longest walk (0 where that is not known, and has_longest 0), and `kinds` that of the different numbers of parents.
@@ -459,7 +473,7 @@ typedef struct cg_count { uint32_t parents, commits; } cg_count;
 /* Checks a graph, with `distinct_ids` also that no id stands in two layers. Answers the verdict's code.
  * `counts` gets, from the least number of parents on, how many commits have it, as many as there is room for, on CG_OK, and else
  * nothing. */
-uint32_t cg_verify(cg_graph graph, bool distinct_ids, cg_verdict *out, cg_count *counts, size_t counts_len);
+uint32_t cg_verify(cg_graph graph, bool distinct_ids, cg_verdict *out, cg_count *counts, size_t counts_len) CG_NONNULL((3));
 
 /* What a check found in a layer. `code` is
  *   CG_OK               where it is right alone: `num_commits` is the number of its commits, the generation numbers are those
@@ -478,7 +492,7 @@ typedef struct cg_layer_verdict {
 /* Checks a layer, which counts from the lowest, as a file of its own: its checksum, its file's name, its fan, its ids, its trees, and
  * that its parents can be decoded. What it says of the layers below it is not looked at, and neither are its generation numbers.
  * Answers the verdict's code, and *out is always written. */
-uint32_t cg_verify_layer(cg_graph graph, uint64_t layer, cg_layer_verdict *out);
+uint32_t cg_verify_layer(cg_graph graph, uint64_t layer, cg_layer_verdict *out) CG_NONNULL((3));
 
 /* A search for a walk. `code` is
  *   CG_CLOSED_GRAPH; else
@@ -496,12 +510,12 @@ uint32_t cg_verify_layer(cg_graph graph, uint64_t layer, cg_layer_verdict *out);
 typedef struct cg_reached { uint32_t code, visits; uint64_t length; } cg_reached;
 
 /* Looks for a shortest walk along parents, and writes its positions, as many as there is room for. */
-cg_reached cg_ancestor_walk(cg_graph graph, uint32_t from, uint32_t to, uint32_t *out, size_t len);
+CG_NODISCARD cg_reached cg_ancestor_walk(cg_graph graph, uint32_t from, uint32_t to, uint32_t *out, size_t len);
 
 /* The same, unless the limit stops it: on CG_OK `visits` is at most what the limit allows. Without a flag CG_STOPPED comes only where more
  * commits than that have to be visited: `from` reaches more whose generation numbers are at least that of `to`. So it does not come
  * where the limit allows as many as the graph has commits. */
-cg_reached cg_ancestor_walk_within(cg_graph graph, uint32_t from, uint32_t to, cg_limit limit, uint32_t *out, size_t len);
+CG_NODISCARD cg_reached cg_ancestor_walk_within(cg_graph graph, uint32_t from, uint32_t to, cg_limit limit, uint32_t *out, size_t len);
 
 /* Whether a commit is an ancestor of another: `found` says so on CG_OK, and is false elsewhere. The codes are those of
  * cg_reached. */
@@ -509,18 +523,18 @@ typedef struct cg_leads { uint32_t code; bool found; } cg_leads;
 
 /* Looks whether the commit at `ancestor` is an ancestor of the one at `descendant`, which then leads to it along parents. A
  * commit is its own ancestor. The order is that of `git merge-base --is-ancestor`. */
-cg_leads cg_is_ancestor(cg_graph graph, uint32_t ancestor, uint32_t descendant);
+CG_NODISCARD cg_leads cg_is_ancestor(cg_graph graph, uint32_t ancestor, uint32_t descendant);
 
 /* The same, unless the limit stops it, as cg_ancestor_walk_within does with `descendant` for `from`, and `ancestor` for `to`. A commit is
  * visited where its parents are read. */
-cg_leads cg_is_ancestor_within(cg_graph graph, uint32_t ancestor, uint32_t descendant, cg_limit limit);
+CG_NODISCARD cg_leads cg_is_ancestor_within(cg_graph graph, uint32_t ancestor, uint32_t descendant, cg_limit limit);
 
 /* Two commits, by their positions, in the order of cg_is_ancestor. */
 typedef struct cg_pair { uint32_t ancestor, descendant; } cg_pair;
 
 /* Asks for many pairs what cg_is_ancestor asks for one, and writes of each 1 where `ancestor` is one of `descendant`, and
  * else 0. The memory of the search is the call's own, and is filled once for all pairs. */
-cg_answered cg_are_ancestors(cg_graph graph, const cg_pair *pairs, size_t count, uint8_t *out, size_t len);
+CG_NODISCARD cg_answered cg_are_ancestors(cg_graph graph, const cg_pair *pairs, size_t count, uint8_t *out, size_t len);
 
 /* The merge bases of a commit and some others. On CG_OK there are `length`; `ahead` commits are those that the first leads to
  * and none of the others does, and `behind` those that some of the others leads to and the first does not; `visits` commits
@@ -529,13 +543,13 @@ typedef struct cg_bases { uint32_t code, ahead, behind; uint64_t visits, length;
 
 /* Looks for the merge bases that `git merge-base --all FIRST OTHERS..` names, and writes their positions, the least first, as
  * many as there is room for. */
-cg_bases cg_merge_bases(cg_graph graph, uint32_t first, const uint32_t *others, size_t count, uint32_t *out, size_t len);
+CG_NODISCARD cg_bases cg_merge_bases(cg_graph graph, uint32_t first, const uint32_t *others, size_t count, uint32_t *out, size_t len);
 
 /* The same, unless the limit stops it, as cg_ancestor_walk_within; but a limit of as many visits as the graph has commits may still stop
  * it, since commits at the greatest generation number are visited again where more is found out about them. One of three times as many
  * does not. */
-cg_bases cg_merge_bases_within(cg_graph graph, uint32_t first, const uint32_t *others, size_t count, cg_limit limit,
-                               uint32_t *out, size_t len);
+CG_NODISCARD cg_bases cg_merge_bases_within(cg_graph graph, uint32_t first, const uint32_t *others, size_t count, cg_limit limit,
+                                            uint32_t *out, size_t len);
 
 /* Two commits, by their positions. */
 typedef struct cg_two { uint32_t first, other; } cg_two;
@@ -554,8 +568,8 @@ typedef struct cg_compared { uint32_t code; uint64_t answered, length; } cg_comp
  * and past `length` is written. Where `length` is above `len`, the answers are whole all the same, and the sum of their lengths says
  * of which pairs all positions were written. Two bytes for each commit are filled once for all pairs: with the second pair each costs
  * no more than what is visited for it. */
-cg_compared cg_merge_bases_of(cg_graph graph, const cg_two *pairs, size_t count, cg_bases *answers, size_t answers_len,
-                              uint32_t *out, size_t len);
+CG_NODISCARD cg_compared cg_merge_bases_of(cg_graph graph, const cg_two *pairs, size_t count, cg_bases *answers, size_t answers_len,
+                                           uint32_t *out, size_t len);
 
 /* The corrected commit dates of a graph, by which Git orders commits. `code` is
  *   CG_OK               where each commit has one, and all are right: there are `length`;
@@ -569,7 +583,7 @@ typedef struct cg_dates { uint32_t code, position; uint64_t layer, expected, len
 /* Writes the corrected dates of all commits, in seconds since 1970-01-01 00:00:00 UTC, from position 0 on, as many as there is
  * room for; nothing where the code is not CG_OK. The graph need not be checked: parents are then those that can be decoded. Each call
  * reads and compares all dates, and takes 8 bytes for each commit while it runs. */
-cg_dates cg_corrected_dates(cg_graph graph, uint64_t *out, size_t len);
+CG_NODISCARD cg_dates cg_corrected_dates(cg_graph graph, uint64_t *out, size_t len);
 
 /* Of how many commits the changed-path filters were asked for a path. `code` is
  *   CG_OK                  where `answered` is the smaller of the two lengths: each commit was answered for which there is room;
@@ -584,8 +598,8 @@ typedef struct cg_probed { uint32_t code, position, number; uint64_t layer, answ
  * its filter was made for, 1 where it may be, and 2 where there is no filter. A path is bytes, with `/` between its parts and none
  * at either end. Git makes a filter for the paths that a commit changes against its first parent, and the folders that lead to
  * them. The graph need not be checked. Each call reads the sizes of all filters, so that it is best asked for many commits. */
-cg_probed cg_probe_path(cg_graph graph, const uint8_t *path, size_t path_len, const uint32_t *positions, size_t count,
-                        uint8_t *out, size_t len);
+CG_NODISCARD cg_probed cg_probe_path(cg_graph graph, const uint8_t *path, size_t path_len, const uint32_t *positions, size_t count,
+                                     uint8_t *out, size_t len);
 
 /* What differs first between the record of a commit and the bytes of its object. `code` is
  *   CG_OK                       where nothing does: the digest of `commit LEN`, a null byte and the bytes is the commit's id, and the
@@ -601,7 +615,7 @@ typedef struct cg_matched { uint32_t code; uint64_t parent; } cg_matched;
 
 /* Compares what the graph says of the commit at a position with the contents of a commit object, as `git cat-file commit ID` writes
  * them. The graph need not be checked. Most of the time goes into the digest. */
-cg_matched cg_matches(cg_graph graph, uint32_t pos, const uint8_t *contents, size_t len);
+CG_NODISCARD cg_matched cg_matches(cg_graph graph, uint32_t pos, const uint8_t *contents, size_t len);
 
 /* A commit that a layer is to have: its id, that of its root tree, the ids of its parents, one after another, first parent first, each
  * as long as its own, which is 20 bytes or 32; and the committer's time, in seconds since 1970-01-01 00:00:00 UTC. */
@@ -647,16 +661,22 @@ typedef struct cg_write_error { uint32_t code, position; uint64_t commit, other,
  * was. What *out was before is not freed: let it be CG_NO_BYTES. The file's checksum, by which the file of a chain is named
  * graph-X.graph, is its last cg_id_len bytes.
  *
- * The layer is made once, in this call, whose memory is some 70 bytes a commit besides the file, and 16 for each commit of the graph
- * below; the bytes wait in *out. */
-cg_write_error cg_write(cg_graph graph, const cg_new_commit *commits, size_t count, cg_bytes *out);
+ * The layer is made once, in this call, whose memory is at most some 65 bytes a commit besides the file, and 24 for each commit of the
+ * graph below, or 16 where that has no corrected dates. A commit of more than two parents takes 8 more for each further one; of ids of
+ * SHA-256, and of filters below, none takes more. The bytes wait in *out. */
+CG_NODISCARD cg_write_error cg_write(cg_graph graph, const cg_new_commit *commits, size_t count, cg_bytes *out) CG_NONNULL((4));
 
 /* Copies bytes, from the one of number `start` on, as many as there is room for. Answers how many there are from there on, 0 past
  * their end and of CG_NO_BYTES: so with no room it answers how much is wanted, and copies nothing. */
 uint64_t cg_bytes_copy(cg_bytes bytes, uint64_t start, uint8_t *out, size_t len);
 
-/* Frees bytes, and answers whether there were some: false of CG_NO_BYTES, with which nothing is done. */
-bool cg_bytes_free(cg_bytes bytes);
+/* Lends the bytes where they lie, so that they are written to a file, or opened by cg_open_lent, without a copy; false, and *out is
+ * left as it was, of CG_NO_BYTES. */
+bool cg_lend_bytes(cg_bytes bytes, cg_lent *out) CG_NONNULL((2));
+
+/* Frees bytes, leaves CG_NO_BYTES where they were, and answers whether there were some: false of CG_NO_BYTES, with which nothing is
+ * done. */
+bool cg_bytes_free(cg_bytes *bytes) CG_NONNULL((1));
 
 /* A line of a chain file, commit-graph-chain, each of which names a layer, from the lowest on: the line L is the layer of the
  * file graph-L.graph in the same folder. `found`: the line is the bytes from the start that was asked for up to `end`, without
@@ -664,9 +684,10 @@ bool cg_bytes_free(cg_bytes bytes);
 typedef struct cg_line { bool found; size_t end, next; } cg_line;
 
 /* The line that begins at the byte `start` of a chain file: 0 for the first one, and then `next` of the one before. */
-cg_line cg_chain_line(const uint8_t *text, size_t len, size_t start);
+CG_NODISCARD cg_line cg_chain_line(const uint8_t *text, size_t len, size_t start);
 
-/* What happened, as a sentence; another number than those of cg_code is not known. */
+/* What happened, as a sentence; another number than those of cg_code is not known. This call and cg_advice stand here whole, and the
+ * library has them besides, by the same names, for other languages. */
 static inline const char *cg_strerror(uint32_t code) {
     switch (code) {
     case CG_OK: return "no error";
@@ -765,10 +786,10 @@ static inline const char *cg_strerror(uint32_t code) {
 }
 
 /* What to do about it, with the commands to type, in the words of docs/REFUSALS.md; "" where it says nothing, and for a number that is
- * not known. A commit-graph is written anew by commands that are typed at the top of its repository. */
+ * not known. It does not know which files were opened: whoever tells it names them, as bindings/c/example.c does. */
 static inline const char *cg_advice(uint32_t code) {
-#define CG_ANEW "remove `.git/objects/info/commit-graph` and the folder `.git/objects/info/commit-graphs`, " \
-                "and then run `git commit-graph write --reachable`, with `--changed-paths` if it had filters"
+#define CG_ANEW "remove the files that were opened (of a chain, its whole folder), and then run `git commit-graph write " \
+                "--reachable` in their repository, with `--changed-paths` if they had filters"
     switch (code) {
     case CG_OUT_OF_MEMORY: return "give the program more memory";
     case CG_OPEN_NOTHING_FOUND: return "check the path";

@@ -126,7 +126,7 @@ static inline cg_path_error cg_paths_of_file(cg_paths *all, const char *asked, c
         cg_path_error again;
         if (it->kind != CG_READ || !cg_paths_ends(it, "commit-graph") || strcmp(it->path, asked) == 0) continue;
         again = cg_paths_ask(all, it->path, CG_FILE, &graph);
-        cg_close(graph);
+        cg_close(&graph);
         if (again.code != CG_OK) return again;
     }
     return told;

@@ -85,7 +85,7 @@ static void print_refusal(const cg_file *file, const cg_verdict *verdict) {
         fprintf(stderr, "the commit at position %" PRIu32 " is ", verdict->position);
         for (size_t i = 0; i < len; i++) fprintf(stderr, "%02" PRIx8, id[i]);
         fputc('\n', stderr);
-        cg_close(graph);
+        cg_close(&graph);
     }
     if (*cg_advice(verdict->code)) fprintf(stderr, "what to do: %s\n", cg_advice(verdict->code));
 }
@@ -109,6 +109,6 @@ int main(int argc, char **argv) {
     if (error.code != CG_OK) return 1;
     printf("%" PRIu32 " commits\n", cg_num_commits(graph));
     int status = print_commit(graph, argv[2]);
-    cg_close(graph);
+    cg_close(&graph);
     return status;
 }

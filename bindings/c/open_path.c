@@ -12,13 +12,14 @@ int main(int argc, char **argv) {
         return 2;
     }
     uint32_t code = cg_open_path(argv[1], CG_ANYTHING, file, sizeof file, &opened).code;
-    if (code == CG_OK) code = cg_check(opened, false, &verdict, NULL, 0, &graph);
-    if (code != CG_OK) {
+    if (code == CG_OK) code = cg_check(&opened, false, &verdict, NULL, 0, &graph);
+    if (code == CG_OK) {
+        printf("%" PRIu32 " commits, layers: %" PRIu64 "\n", cg_num_commits(graph), cg_num_layers(graph));
+    } else {
         fprintf(stderr, "%s: %s\n", *file ? file : argv[1], cg_strerror(code));
         if (*cg_advice(code)) fprintf(stderr, "what to do: %s\n", cg_advice(code));
-        return 1;
     }
-    printf("%" PRIu32 " commits, layers: %" PRIu64 "\n", cg_num_commits(graph), cg_num_layers(graph));
-    cg_close(graph);
-    return 0;
+    cg_close(&graph);
+    cg_close(&opened); /* The check has taken it, also where it is refused: there is nothing to close. */
+    return code != CG_OK;
 }

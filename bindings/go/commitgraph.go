@@ -14,6 +14,8 @@ package commitgraph
 #cgo pkg-config: commitgraph
 #include <commitgraph.h>
 #include <stdlib.h>
+
+static cg_lent not_lent(void) { return CG_NOT_LENT; }
 */
 import "C"
 
@@ -60,8 +62,7 @@ func graphOf(open *openGraph) *Graph {
 }
 
 func (o *openGraph) close() {
-	C.cg_close(o.raw)
-	o.raw = C.cg_graph{}
+	C.cg_close(&o.raw)
 }
 
 // raw is what C has of the graph, which is closed where none was opened.
@@ -228,7 +229,7 @@ func refused(code uint32, verdict *C.cg_verdict, files []C.cg_file, paths []stri
 		var graph C.cg_graph
 		C.cg_open(&files[0], C.size_t(len(files)), &graph)
 		isOfLayer = err.name(graph)
-		C.cg_close(graph)
+		C.cg_close(&graph)
 	}
 	if isOfLayer && err.Layer < uint64(len(paths)) {
 		err.Path = paths[err.Layer]
@@ -286,11 +287,9 @@ func (p *paths) checked(ctx context.Context, raw C.cg_graph, distinctIDs bool, v
 	var counts [1]C.cg_count
 	checked := &openGraph{}
 	err := within(ctx, visits, func(limit C.cg_limit) C.uint32_t {
-		given := raw
-		raw = C.cg_graph{}
-		return C.cg_check_within(given, C.bool(distinctIDs), limit, &verdict, &counts[0], 0, &checked.raw)
+		return C.cg_check_within(&raw, C.bool(distinctIDs), limit, &verdict, &counts[0], 0, &checked.raw)
 	})
-	C.cg_close(raw)
+	C.cg_close(&raw)
 	var told *Error
 	if errors.As(err, &told) {
 		return nil, p.refused(told.Code, &verdict)
@@ -311,7 +310,7 @@ func within(ctx context.Context, visits uint64, call func(C.cg_limit) C.uint32_t
 		if code := C.cg_flag_new(&limit.flag); code != C.CG_OK {
 			return &Error{Code: uint32(code)}
 		}
-		defer C.cg_flag_free(limit.flag)
+		defer C.cg_flag_free(&limit.flag)
 		ended, raised := make(chan struct{}), make(chan struct{})
 		go func() {
 			defer close(raised)
@@ -419,7 +418,7 @@ func (p *paths) openAsked() (C.cg_graph, error) {
 		return raw, chain
 	}
 	again, err := p.open(file.path, C.CG_FILE)
-	C.cg_close(again)
+	C.cg_close(&again)
 	switch {
 	case err == nil || isMissing(err) || isOfMemory(err):
 		return raw, chain
@@ -846,10 +845,10 @@ func write(below C.cg_graph, commits []NewCommit) ([]byte, error) {
 		}
 		return nil, err
 	}
-	defer C.cg_bytes_free(file)
-	bytes := make([]byte, C.cg_bytes_copy(file, 0, at(nil), 0))
-	C.cg_bytes_copy(file, 0, at(bytes), C.size_t(len(bytes)))
-	return bytes, nil
+	defer C.cg_bytes_free(&file)
+	lent := C.not_lent()
+	C.cg_lend_bytes(file, &lent)
+	return append([]byte{}, unsafe.Slice((*byte)(unsafe.Pointer(lent.bytes)), int(lent.len))...), nil
 }
 
 // handedIn lists commits for C, in memory of C's that the caller frees: C gets no pointer to memory of Go's that holds one. Their

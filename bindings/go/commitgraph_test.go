@@ -611,5 +611,8 @@ func TestRefusals(t *testing.T) {
 		if !errors.As(err, &told) || told.Code != bad.code {
 			t.Error(err)
 		}
+		if !strings.Contains(err.Error(), "remove the files that were opened (of a chain, its whole folder), and then run `git ") {
+			t.Error(err)
+		}
 	}
 }

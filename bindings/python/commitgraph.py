@@ -12,7 +12,7 @@ and `write_layer` make the bytes that Git writes of commits.
 Threads may share a graph: any number of them may ask it at a time, and a call that has begun comes to its end also where another
 thread closes the graph. A graph is not copied or pickled.
 
-It calls libcommitgraph.so.0, which is looked for in the folder that COMMITGRAPH_LIB names; where that is not set, in this clone, where
+It calls libcommitgraph.so.1, which is looked for in the folder that COMMITGRAPH_LIB names; where that is not set, in this clone, where
 `scripts/library` makes it, and then where the system looks. The calls are proved, this module is not: test_commitgraph.py tests it.
 """
 
@@ -26,13 +26,13 @@ import shlex
 import stat
 import string
 from collections.abc import Iterator, Sequence
-from ctypes import POINTER, c_bool, c_size_t, c_uint8, c_uint32, c_uint64, c_void_p
+from ctypes import POINTER, c_bool, c_char_p, c_size_t, c_uint8, c_uint32, c_uint64, c_void_p
 from itertools import islice
 from typing import NamedTuple, NoReturn
 
 VERSION = 100
 """The version of the library that this module is for."""
-INSTALLED = "libcommitgraph.so.0"
+INSTALLED = "libcommitgraph.so.1"
 """The name of the library where it is installed."""
 
 
@@ -132,149 +132,14 @@ class Code(enum.IntEnum):
     WRITE_TOO_MANY_LAYERS = 723
 
 
-SENTENCES = {
-    Code.OK: "no error",
-    Code.OUT_OF_MEMORY: "memory ran out",
-    Code.CLOSED_GRAPH: "no graph is open",
-    Code.NOT_CHECKED: "no check has found the graph right",
-    Code.NO_SUCH_POSITION: "the graph has no such position",
-    Code.PATH_NOT_UTF8: "a path is not UTF-8",
-    Code.NO_DATES: "a layer has no corrected dates",
-    Code.MORE_PARENTS: "the commit has more parents than there is room for",
-    Code.PATH_WANTED: "it has to be known what stands at one more path",
-    Code.NO_SUCH_LAYER: "the graph has no such layer",
-    Code.STOPPED: "a limit or a flag stopped the call",
-    Code.OPEN_NOTHING_FOUND: "no file or folder is at the path",
-    Code.OPEN_NOT_OPENED: "a file is not there or may not be read",
-    Code.OPEN_READ_FAILED: "reading a file failed",
-    Code.OPEN_CHAIN_NOT_TEXT: "a line of the chain file is not UTF-8",
-    Code.FILE_TOO_SHORT: "the file has fewer than 1100 bytes: often it is truncated",
-    Code.FILE_SIGNATURE: "the bytes do not begin with `CGPH`",
-    Code.FILE_VERSION: "another version than 1",
-    Code.FILE_HASH: "another kind of hash than SHA-1 (1) and SHA-256 (2)",
-    Code.FILE_BASE_SIZE: "`BASE` ends within an id",
-    Code.FILE_BASE_COUNT: "`BASE` has another number of ids than the header says",
-    Code.FILE_NO_COMMIT_DATA: "there is no `CDAT`",
-    Code.FILE_COMMIT_DATA_SIZE: "`CDAT` ends within a record",
-    Code.FILE_NO_FAN: "there is no `OIDF`",
-    Code.FILE_FAN_SIZE: "`OIDF` does not have 256 numbers, 1024 bytes",
-    Code.FILE_NO_IDS: "there is no `OIDL`",
-    Code.FILE_IDS_SIZE: "`OIDL` ends within an id",
-    Code.FILE_TOO_MANY_EDGES: "`EDGE` has more than 4,294,967,294 words",
-    Code.FILE_TRAILER: "what follows the chunks is not as long as a checksum: often a truncated file",
-    Code.FILE_BASE_MISSING: "the header counts base ids, and there is no `BASE`",
-    Code.FILE_FAN_FALLS: "a number of `OIDF` is less than the one before it",
-    Code.FILE_ID_COUNT: "`OIDL` has another number of ids than `OIDF` says",
-    Code.FILE_RECORD_COUNT: "`CDAT` has another number of records than `OIDF` says",
-    Code.CHUNK_NONE: "the number of chunks is 0",
-    Code.CHUNK_TABLE_TOO_SMALL: "the table of chunks passes the end of the file",
-    Code.CHUNK_EARLY_END: "an entry before the last has the id 0",
-    Code.CHUNK_DUPLICATE: "two chunks have one id",
-    Code.CHUNK_OUT_OF_FILE: "a chunk begins past the end of the file: often a truncated file",
-    Code.CHUNK_FALLING: "a chunk ends before it begins",
-    Code.CHUNK_NO_END: "the table does not end with the id 0",
-    Code.GRAPH_NO_FILES: "the chain file names no layer",
-    Code.GRAPH_TOO_MANY_COMMITS: "there are more than 1,879,048,191 commits",
-    Code.GRAPH_HASH_MISMATCH: "layers have different kinds of hash",
-    Code.CHECK_TOO_MANY_FILES: "there are more than 256 layers",
-    Code.CHECK_BASE_COUNT: "a layer has another number of base layers than there are layers before it",
-    Code.CHECK_BASE_ID: "a base id of a layer is not the checksum of the layer that it stands for",
-    Code.CHECK_PARENT_OUT_OF_RANGE: "a parent of a commit lies past the end of the commit's own layer",
-    Code.CHECK_GENERATION: "the generation number of a commit is not one more than the greatest of its parents'",
-    Code.CHECK_DUPLICATE_ID: "the id of a commit stands at an earlier position too, in an earlier layer",
-    Code.CHECK_CHECKSUM: "the checksum of a layer is not the digest of its bytes: they were changed or lost",
-    Code.CHECK_FILE_NAME: "a file is named `graph-X.graph`, and X is not its checksum",
-    Code.CHECK_FAN: "the fan (chunk `OIDF`) does not count the ids whose first byte is at most some byte",
-    Code.CHECK_NULL_ID: "the id of a commit is null, all zeros",
-    Code.CHECK_ORDER: "the id of a commit is not above the one before it in its layer",
-    Code.CHECK_NULL_TREE: "the id of the root tree of a commit is null",
-    Code.PARENT_SECOND_WITHOUT_FIRST: "the record of a commit in `CDAT` has a second parent and no first",
-    Code.PARENT_FIRST_IS_EDGE_INDEX: "the first parent field of a commit points into `EDGE`",
-    Code.PARENT_NO_EDGE_LIST: "the second parent field of a commit points into `EDGE`, which is not there",
-    Code.PARENT_EDGE_OVERFLOW: "the list of a commit in `EDGE` runs past the end",
-    Code.DATES_DATA_SIZE: "`GDA2` has not four bytes for each commit",
-    Code.DATES_OVERFLOW_SIZE: "the length of `GDO2` is no multiple of eight",
-    Code.DATES_OVERFLOW_INDEX: "the word of a commit is past the end of `GDO2`",
-    Code.DATES_TOO_LARGE: "the date of a commit is 2^63 or more",
-    Code.DATES_WRONG: "the date of a commit is not its time or, if later, one second after the latest date of its parents",
-    Code.FILTERS_INDEX_SIZE: "`BIDX` has not four bytes for each commit",
-    Code.FILTERS_DATA_SIZE: "`BDAT` has fewer than twelve bytes",
-    Code.FILTERS_VERSION: "the version of the hash of the filters is neither 1 nor 2",
-    Code.FILTERS_HASHES: "the number of hashes is 0, or more than 65,535",
-    Code.FILTERS_NO_BITS: "the number of bits per entry is 0",
-    Code.FILTERS_FALLS: "a commit's filter ends before it begins",
-    Code.FILTERS_PAST_END: "a commit's filter ends past the end of `BDAT`",
-    Code.FILTERS_LEFT_OVER: "there are bytes after the last filter",
-    Code.FILTERS_SETTINGS: "the version or number of hashes is not that of the lowest layer with filters",
-    Code.OBJECT_OTHER_CONTENTS: "the bytes are not those of the commit's id",
-    Code.OBJECT_UNREADABLE: "the bytes are not those of a commit",
-    Code.OBJECT_TREE: "the root tree is another one in the commit-graph than in the commit",
-    Code.OBJECT_PARENT: "the parents are others in the commit-graph than in the commit",
-    Code.OBJECT_TIME: "the time is another one in the commit-graph than in the commit",
-    Code.WRITE_KIND: "an id of a commit is of another kind of hash than the first commit, or than the graph below",
-    Code.WRITE_NULL_ID: "the id of a commit is null",
-    Code.WRITE_NULL_TREE: "the root tree of a commit is null",
-    Code.WRITE_TIME: "the time of a commit is past 34 bits",
-    Code.WRITE_TWICE: "a commit is handed in twice",
-    Code.WRITE_BELOW: "the graph below has a commit that is handed in",
-    Code.WRITE_PARENT: "a parent of a commit is neither handed in nor in the graph below",
-    Code.WRITE_CYCLE: "a commit is its own ancestor",
-    Code.WRITE_NOTHING: "no commit is handed in",
-    Code.WRITE_NO_IDS: "an id of a commit has neither 20 nor 32 bytes, or another length than the commit's own",
-    Code.WRITE_TOO_MANY_COMMITS: "with the graph below there are more than 1,879,048,191 commits",
-    Code.WRITE_TOO_MANY_EDGES: "there are 2^31 parents past the first of commits with more than two",
-    Code.WRITE_TOO_MANY_LAYERS: "the graph below has 256 layers",
-}
-"""What happened, for each number."""
-
-ANEW = (
-    "remove `.git/objects/info/commit-graph` and the folder `.git/objects/info/commit-graphs`, "
-    "and then run `git commit-graph write --reachable`, with `--changed-paths` if it had filters"
-)
-FILTERS = "write it anew, with `--changed-paths` after the last command; to write it anew, " + ANEW
-ADVICE = {
-    Code.OUT_OF_MEMORY: "give the program more memory",
-    Code.OPEN_NOTHING_FOUND: "check the path",
-    Code.OPEN_NOT_OPENED: "`git commit-graph write --reachable` makes a commit-graph (not in a shallow repository); if there is one, "
-    "check permissions, the path (in most repositories `.git/objects/info`), and whether a layer is in another object folder, where "
-    "it is not looked for",
-    Code.OPEN_READ_FAILED: "try again, and check the disk",
-    Code.GRAPH_TOO_MANY_COMMITS: "a commit-graph cannot hold more",
-    Code.CHECK_BASE_COUNT: "open the whole chain, by its folder; else write it anew: " + ANEW,
-    Code.CHECK_CHECKSUM: "check the disk, and write it anew: " + ANEW,
-    Code.CHECK_FILE_NAME: "give it its name back, or write it anew: " + ANEW,
-    Code.DATES_WRONG: "write it anew; where a time is past the year 2514, or a date has a minus sign, Git writes dates that are "
-    "refused again, and `git -c commitGraph.generationVersion=1 commit-graph write --reachable` writes none; to write it anew, " + ANEW,
-    Code.FILTERS_INDEX_SIZE: FILTERS,
-    Code.FILTERS_DATA_SIZE: FILTERS,
-    Code.FILTERS_VERSION: FILTERS,
-    Code.FILTERS_HASHES: FILTERS,
-    Code.FILTERS_NO_BITS: FILTERS,
-    Code.FILTERS_FALLS: FILTERS,
-    Code.FILTERS_PAST_END: FILTERS,
-    Code.FILTERS_LEFT_OVER: FILTERS,
-    Code.FILTERS_SETTINGS: FILTERS,
-    Code.OBJECT_OTHER_CONTENTS: "take the object from another copy of the repository",
-    Code.OBJECT_UNREADABLE: "see what `git fsck` says of it",
-    Code.OBJECT_TIME: "write it anew; where its time is past the year 2514, or its date has a minus sign, Git stores the low bits "
-    "again, and the commit has to be made anew, with another time; to write it anew, " + ANEW,
-    Code.WRITE_KIND: "hand in ids of one kind",
-    Code.WRITE_NULL_ID: "hand in its id",
-    Code.WRITE_NULL_TREE: "see what `git fsck` says of it",
-    Code.WRITE_TIME: "make the commit anew, with another time",
-    Code.WRITE_TWICE: "give each commit once",
-    Code.WRITE_BELOW: "give the commits that the graph lacks",
-    Code.WRITE_PARENT: "give all ancestors that the graph lacks",
-    Code.WRITE_CYCLE: "hand in the parents that its object names",
-    Code.WRITE_NOTHING: "see whether `git rev-list --all` lists any",
-    Code.WRITE_NO_IDS: "hand in whole ids",
-    Code.WRITE_TOO_MANY_LAYERS: "write the chain anew as one file",
-}
-"""What to do, as `cg_advice` of commitgraph.h has it: ANEW for the numbers from 24 to 700 that are not here."""
+def _sentence(code: int) -> str:
+    """What happened, as the library says it."""
+    return str(_library.cg_strerror(code), "utf-8")
 
 
 def _advice(code: int) -> str:
-    return ADVICE.get(Code(code), ANEW if Code.OPEN_CHAIN_NOT_TEXT <= code < Code.WRITE_KIND else "")
+    """What to do, as the library says it; empty where it says nothing."""
+    return str(_library.cg_advice(code), "utf-8")
 
 
 class Error(Exception):
@@ -311,7 +176,7 @@ class Error(Exception):
 
     def _said(self, is_numbered: bool) -> str:
         """What happened, alone."""
-        said = (self.path + ": " if self.path else "") + SENTENCES[self.code]
+        said = (self.path + ": " if self.path else "") + _sentence(self.code)
         if self._is_of_no_bytes():
             said = "no layer is handed in"
         elif self.code == Code.OPEN_CHAIN_NOT_TEXT:
@@ -343,7 +208,7 @@ class NeitherError(Error):
         self._given = (file, chain)
 
     def _to_do(self) -> str:
-        return ANEW
+        return _advice(Code.OPEN_CHAIN_NOT_TEXT)
 
     def _said(self, is_numbered: bool) -> str:
         return _neither(self.file, self.chain)
@@ -431,6 +296,10 @@ class _Bytes(ctypes.Structure):
     _fields_ = (("address", c_void_p), ("kept", c_bool))
 
 
+class _Lent(ctypes.Structure):
+    _fields_ = (("bytes", c_void_p), ("len", c_size_t))
+
+
 class _Flag(ctypes.Structure):
     _fields_ = (("address", c_void_p), ("kept", c_bool))
 
@@ -458,11 +327,11 @@ CALLS = {
         _PathError,
         (c_void_p, c_size_t, c_uint32, POINTER(_Known), c_size_t, c_void_p, c_size_t, POINTER(_Graph)),
     ),
-    "cg_check_within": (c_uint32, (_Graph, c_bool, _Limit, POINTER(_Verdict), c_void_p, c_size_t, POINTER(_Graph))),
-    "cg_close": (c_bool, (_Graph,)),
+    "cg_check_within": (c_uint32, (POINTER(_Graph), c_bool, _Limit, POINTER(_Verdict), c_void_p, c_size_t, POINTER(_Graph))),
+    "cg_close": (c_bool, (POINTER(_Graph),)),
     "cg_flag_new": (c_uint32, (POINTER(_Flag),)),
     "cg_flag_raise": (c_bool, (_Flag,)),
-    "cg_flag_free": (c_bool, (_Flag,)),
+    "cg_flag_free": (c_bool, (POINTER(_Flag),)),
     "cg_num_commits": (c_uint32, (_Graph,)),
     "cg_id_len": (c_size_t, (_Graph,)),
     "cg_layer": (c_bool, (_Graph, c_uint64, POINTER(_Layer))),
@@ -477,9 +346,11 @@ CALLS = {
     "cg_merge_bases_within": (_Bases, (_Graph, c_uint32, c_void_p, c_size_t, _Limit, c_void_p, c_size_t)),
     "cg_merge_bases_of": (_Compared, (_Graph, POINTER(_Two), c_size_t, POINTER(_Bases), c_size_t, c_void_p, c_size_t)),
     "cg_write": (_WriteError, (_Graph, POINTER(_NewCommit), c_size_t, POINTER(_Bytes))),
-    "cg_bytes_copy": (c_uint64, (_Bytes, c_uint64, c_void_p, c_size_t)),
-    "cg_bytes_free": (c_bool, (_Bytes,)),
+    "cg_lend_bytes": (c_bool, (_Bytes, POINTER(_Lent))),
+    "cg_bytes_free": (c_bool, (POINTER(_Bytes),)),
     "cg_chain_line": (_Line, (c_void_p, c_size_t, c_size_t)),
+    "cg_strerror": (c_char_p, (c_uint32,)),
+    "cg_advice": (c_char_p, (c_uint32,)),
 }
 """What each call that is used here answers and takes."""
 
@@ -507,7 +378,9 @@ def _load() -> ctypes.CDLL:
     if version != VERSION:
         raise ImportError(f"{path} is of version {version}, and not {VERSION}; what to do: {_how_to_install()}", path=path)
     for name, (answer, taken) in CALLS.items():
-        call = getattr(library, name)
+        call = getattr(library, name, None)
+        if call is None:
+            raise ImportError(f"{path} is older than this module, and has no {name}; what to do: {_how_to_install()}", path=path)
         call.restype, call.argtypes = answer, taken
     return library
 
@@ -814,16 +687,14 @@ def _written_file(below: _Graph, commits: Sequence[NewCommit]) -> bytes:
     handed, place = (_NewCommit * (len(commits) + 1))(), _at(ids)
     for one, to in zip(commits, handed):
         place = _hand_in(one, to, place)
-    file = _Bytes(None, False)
+    file, lent = _Bytes(None, False), _Lent(_at(b""), 0)
     told = _library.cg_write(below, handed, len(commits), file)
     if told.code:
         commit = _commit_at(below, told.position)[1] if _is_of_commit(told.code) else b""
         raise Error(told.code, told.layer, told.position, number=told.commit, other=told.other, commit=commit)
     try:
-        size = _library.cg_bytes_copy(file, 0, _at(b""), 0)
-        out = ctypes.create_string_buffer(size)
-        _library.cg_bytes_copy(file, 0, out, size)
-        return out.raw
+        _library.cg_lend_bytes(file, lent)
+        return ctypes.string_at(lent.bytes, lent.len)
     finally:
         _library.cg_bytes_free(file)
 

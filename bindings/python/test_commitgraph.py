@@ -322,7 +322,7 @@ class OverGit(unittest.TestCase):
         shutil.copy(commitgraph.__file__, self.folder.name)
         at = {**os.environ, "PYTHONPATH": self.folder.name, "LD_LIBRARY_PATH": ""}
         for named, words in (
-            ("", ["libcommitgraph.so.0: ", "what to do: run scripts/library in a clone", "scripts/install --library PREFIX"]),
+            ("", ["libcommitgraph.so.1: ", "what to do: run scripts/library in a clone", "scripts/install --library PREFIX"]),
             ("no/such/folder", ["no/such/folder/libcommitgraph.so: ", "unset COMMITGRAPH_LIB and run ", "name the folder PREFIX/lib"]),
         ):
             if not named and ctypes.util.find_library("commitgraph"):
@@ -331,10 +331,47 @@ class OverGit(unittest.TestCase):
             done = subprocess.run(command, env={**at, "COMMITGRAPH_LIB": named}, capture_output=True, text=True, cwd="/")
             for word in ("ImportError: ", *words):
                 self.assertIn(word, done.stderr)
-        installed = pathlib.Path(self.folder.name) / "libcommitgraph.so.0"
+        installed = pathlib.Path(self.folder.name) / "libcommitgraph.so.1"
         installed.write_bytes(b"")
         done = subprocess.run(command, env={**at, "COMMITGRAPH_LIB": self.folder.name}, capture_output=True, text=True, cwd="/")
         self.assertIn(f"ImportError: {installed}: file too short", done.stderr)
+        if shutil.which("cc"):
+            older = f"unsigned cg_version(void) {{ return {commitgraph.VERSION}; }}"
+            made = ["cc", "-shared", "-x", "c", "-", "-o", str(installed)]
+            subprocess.run(made, input=older, text=True, check=True)
+            done = subprocess.run(command, env={**at, "COMMITGRAPH_LIB": self.folder.name}, capture_output=True, text=True, cwd="/")
+            self.assertIn(f"ImportError: {installed} is older than this module, and has no cg_open; what to do: ", done.stderr)
+
+    def test_taken(self) -> None:
+        """A call that takes a graph, a flag or bytes leaves none where it was, also where a check refuses the graph."""
+        self.git("commit-graph", "write", "--reachable")
+        data = (self.info / "commit-graph").read_bytes()
+        for layer, code in ((data, Code.OK), (self.misnumbered(data)[0], Code.CHECK_GENERATION)):
+            files, _kept = commitgraph._files([(layer, "")])
+            opened, checked = commitgraph._Graph(None, False), commitgraph._Graph(None, False)
+            self.assertEqual(commitgraph._library.cg_open(files, 1, opened).code, Code.OK)
+            told = commitgraph._library.cg_check_within(
+                opened, False, commitgraph._limit(None, None), commitgraph._Verdict(), (commitgraph.c_uint32 * 2)(), 0, checked
+            )
+            self.assertEqual((told, opened.address, opened.opened, checked.opened), (code, None, False, code == Code.OK))
+            self.assertFalse(commitgraph._library.cg_close(opened))
+            self.assertEqual(commitgraph._library.cg_close(checked), code == Code.OK)
+            self.assertEqual((checked.address, checked.opened), (None, False))
+        flag, file = commitgraph._Flag(None, False), commitgraph._Bytes(None, False)
+        self.assertEqual(commitgraph._library.cg_flag_new(flag), Code.OK)
+        self.assertEqual([commitgraph._library.cg_flag_free(flag) for _ in range(2)], [True, False])
+        self.assertFalse(commitgraph._library.cg_bytes_free(file))
+        self.assertEqual((flag.address, flag.kept, file.address, file.kept), (None, False, None, False))
+
+    def test_sentences(self) -> None:
+        """Each number has a sentence; and what to do speaks of what was opened, and not of a path."""
+        for code in Code:
+            self.assertNotIn("not known", str(Error(code)))
+            self.assertNotIn(".git/objects/info/commit-graph", str(Error(code)))
+        told = str(Error(Code.CHECK_FAN, path="a"))
+        self.assertTrue(told.startswith("a: the fan (chunk `OIDF`) "), told)
+        self.assertIn("; what to do: remove the files that were opened (of a chain, its whole folder), and then run `git ", told)
+        self.assertEqual((Error(Code.STOPPED).advice, Error(Code.OUT_OF_MEMORY).advice), ("", "give the program more memory"))
 
     def test_refusals(self) -> None:
         self.git("commit-graph", "write", "--reachable")

@@ -11,6 +11,7 @@ proved the library for C.
 """
 import chunked
 import concurrent.futures
+import ctypes
 import functools
 import gix
 import hashlib
@@ -31,6 +32,7 @@ import time
 
 sys.path.insert(0, str(pathlib.Path(__file__).resolve().parent.parent))
 
+import error_numbers
 import later
 import proving
 
@@ -50,6 +52,16 @@ CALLING_ALL = ("ask.c", "large.c", "memory.c", "threads.c")
 """The programs that make each call. Those of layout.c are the calls that write a struct."""
 IN_HEADER = {"cg_strerror", "cg_advice", "cg_closed", "cg_no_bytes", "cg_no_flag", "cg_not_lent"}
 """Functions that the header has whole."""
+SENTENCES = ("cg_strerror", "cg_advice")
+"""Those of them that the library has too."""
+DECLARED = re.compile(r"^(?:CG_NODISCARD )?[\w ]+ (cg_\w+)\(([^;]*?)\)(?: CG_NONNULL\(\(.*\)\))?;$", re.MULTILINE | re.DOTALL)
+"""A call that the header declares, and what it takes."""
+MAY_BE_IGNORED = {
+    *("cg_close", "cg_flag_raise", "cg_flag_free", "cg_bytes_free", "cg_bytes_copy", "cg_verify", "cg_verify_layer", "cg_layer"),
+    *("cg_layer_checksum", "cg_base_id_at", "cg_lookup_all", "cg_id_at", "cg_tree_at", "cg_lend_id", "cg_lend_tree", "cg_lend_bytes"),
+    *("cg_commit_at", "cg_commits"),
+}
+"""Calls whose answer stands in an out parameter too, or may be known before."""
 STRICT = ["-D_GNU_SOURCE", "-Wall", "-Wextra", "-Wpedantic", "-Werror"]
 COUNTING = threading.Lock()
 LATER = later.Later()
@@ -120,13 +132,51 @@ def exports(archive):
         expect(f"{path.name} declares the exports", sorted(declared) == sorted(found), declared)
     if present("nm", "the names in the library"):
         named = re.findall(r" [A-Z] (\w+)$", run("nm", "--extern-only", "--defined-only", archive).stdout, re.MULTILINE)
-        expect("the library has the exports, and no other names", sorted(named) == sorted(found), named)
+        expect("the library has the exports, the sentences and no other names", sorted(named) == sorted([*found, *SENTENCES]), named)
     crate = "".join(path.read_text() for path in rust.parent.glob("*.rs"))
     calls = {"the Rust crate": re.findall(r"sys::(cg_\w+)\(", crate)}
     for program in CALLING_ALL:
         calls[program] = re.findall(r"\b(cg_\w+)\(", (HERE / program).read_text())
     for caller, made in calls.items():
         expect(f"{caller} makes each call", set(made) - IN_HEADER == set(found), set(found) ^ set(made))
+
+
+def sentences(library):
+    """The library says of each number what its header says."""
+    loaded, header = ctypes.CDLL(str(library)), (HEADER / "commitgraph.h").read_text()
+    loaded.cg_strerror.restype = loaded.cg_advice.restype = ctypes.c_char_p
+    said, anew = error_numbers.advised_in_header(header)
+    happened = dict(error_numbers.SENTENCE.findall(header.partition(error_numbers.ADVISING)[0]))
+    numbers = {name: int(number) for name, number in error_numbers.IN_HEADER.findall(header)}
+    for name, number in numbers.items():
+        advice = said.get(name, anew if numbers["OPEN_CHAIN_NOT_TEXT"] <= number < numbers["WRITE_KIND"] else "")
+        told = loaded.cg_strerror(number).decode(), loaded.cg_advice(number).decode()
+        expect(f"the library's sentences of {name}", told == (happened[name], advice), told)
+    unknown = {(loaded.cg_strerror(number), loaded.cg_advice(number)) for number in range(1000) if number not in numbers.values()}
+    expect("the library's sentence of numbers that are not known", unknown == {(b"a number that is not known", b"")}, unknown)
+
+
+def warned_of(compiler, scratch):
+    """Where the answer of a call is ignored, or a pointer is NULL that may not be, the compiler warns, and nowhere else."""
+    lines, wanted = ['#include "commitgraph.h"'], {"unused-result": set(), "nonnull": set()}
+    for call, taken in DECLARED.findall((HEADER / "commitgraph.h").read_text()):
+        taken = [" ".join(one.split()) for one in taken.split(",")]
+        names = [re.search(r"\w+$", one).group() if one != "void" else "" for one in taken]
+        tried = [(number, one) for number, one in enumerate(taken) if "*" in one]
+        for number, given in [(None, names), *((number, [*names[:number], "NULL", *names[number + 1 :]]) for number, _ in tried)]:
+            made = f"try_{call}_{len(lines)}({', '.join(taken)})"
+            lines.append(f"void {made}; void {made} {{ {call}({', '.join(given)}); }}")
+            if call not in MAY_BE_IGNORED:
+                wanted["unused-result"].add(len(lines))
+            if number is not None and not any(after.startswith("size_t ") for after in taken[number + 1 : number + 2]):
+                wanted["nonnull"].add(len(lines))
+    source = scratch / compiler / "warned.c"
+    source.write_text("\n".join(lines) + "\n")
+    done = run(compiler, "-std=c11", "-O1", "-Wall", "-Wno-unused-parameter", f"-I{HEADER}", "-c", source, "-o", os.devnull)
+    for kind, expected in wanted.items():
+        told = {int(line) for line in re.findall(rf"^\S+?:(\d+):\d+: warning: .*\[-W{kind}\]$", done.stderr, re.MULTILINE)}
+        lacking = [lines[line - 1] for line in sorted(told ^ expected)]
+        expect(f"{compiler}: what it warns of, {kind}", done.returncode == 0 and told == expected, (lacking[:3], done.stderr[-2000:]))
 
 
 def git(where, *words):
@@ -285,6 +335,22 @@ def refused_and_shared(name, compiler, archive, scratch, graphs):
             expect(f"{name}: threads.c", done.returncode == 0, done.stderr)
             done = run(*words, program, graph)
             expect(f"{name}: four threads {' '.join(flags) or tool}", done.returncode == 0, done)
+
+
+def memory_to_write(compiler, archive, scratch):
+    """What `cg_write` takes at most besides the file, for one layer and on top of others, is what its comment in the header says."""
+    header = " ".join((HEADER / "commitgraph.h").read_text().replace("\n *", "").split())
+    said = re.search(r"whose memory is at most some (\d+) bytes a commit besides the file, and (\d+) for each commit of the graph below", header)
+    expect("the header says what cg_write takes", said)
+    new, below = map(int, said.groups()) if said else (0, 0)
+    program = scratch / compiler / "peak"
+    done = run(compiler, "-std=c11", "-O1", *STRICT, f"-I{HEADER}", HERE / "peak.c", *REFUSING, archive, "-o", program)
+    expect(f"{compiler}: peak.c", done.returncode == 0, done.stderr)
+    for size in (20, 32):
+        for count, before, least in ((131_073, 0, new * 131_073), (100, 100_000, below * 100_000), (50_000, 50_000, 0)):
+            done = run(program, size, count, before)
+            told, most = int(done.stdout or -1), new * count + below * before
+            expect(f"{compiler}: what cg_write takes for {count} commits on {before}, ids of {size} bytes", 0.9 * least <= told <= 1.02 * most, (told, most))
 
 
 def layers_of(where):
@@ -558,6 +624,8 @@ def c(compiler, archive, scratch, graphs):
         elif present("valgrind", "valgrind"):
             nothing_left(name, program, scratch, graphs)
     fields(compiler, compiler, archive, scratch)
+    warned_of(compiler, scratch)
+    memory_to_write(compiler, archive, scratch)
     refused_and_shared(compiler, compiler, archive, scratch, graphs)
     example(compiler, archive, scratch, graphs)
     opened_path(compiler, archive, scratch, graphs)
@@ -656,8 +724,8 @@ def refused_example(compiler, program, data, kind):
     commit = f"the commit at position 0 is {data[ids : ids + size].hex()}\n"
     for title, content, words in (
         ("a checksum", data[:-1] + bytes([data[-1] ^ 1]), ["the checksum ", "\nwhat to do: check the disk, "]),
-        ("a generation number", sealed, ["the generation number ", "\n" + commit + "what to do: remove `.git/"]),
-        ("an empty file", b"", ["the file has fewer than 1100 bytes", "\nwhat to do: remove `.git/"]),
+        ("a generation number", sealed, ["the generation number ", "\n" + commit + "what to do: remove the files that were opened "]),
+        ("an empty file", b"", ["the file has fewer than 1100 bytes", "\nwhat to do: remove the files that were opened "]),
     ):
         path.write_bytes(content)
         done = run(program, path, "00" * size)
@@ -768,7 +836,7 @@ def python(library):
         return
     tests = module.with_name("test_commitgraph.py")
     done = run(sys.executable, "-B", tests, env={**os.environ, "COMMITGRAPH_LIB": str(library.parent)})
-    expect("Python: tests", done.returncode == 0 and "Ran 12 tests" in done.stderr, done)
+    expect("Python: tests", done.returncode == 0 and "Ran 14 tests" in done.stderr, done)
 
 
 def parts(archive, scratch, graphs):
@@ -807,6 +875,7 @@ def main():
         return
     archive = built()
     exports(archive)
+    sentences(archive.with_suffix(".so"))
     if not GRAPHTOOL:
         print("what graphtool lists and counts: left out, since no GRAPHTOOL is given")
     with tempfile.TemporaryDirectory() as folder:

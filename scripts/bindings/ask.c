@@ -302,7 +302,7 @@ static bool stops_walk(cg_graph graph, uint32_t from, uint32_t to, cg_reached wh
     uint32_t past = cg_num_commits(graph);
     bool good = cg_ancestor_walk_within(graph, past, to, limits[2], out, ROOM).code == CG_NO_SUCH_POSITION;
     good = good && cg_is_ancestor_within(graph, to, past, none).code == CG_NO_SUCH_POSITION;
-    return cg_flag_free(flag) && good;
+    return cg_flag_free(&flag) && good;
 }
 
 /* Whether the search for merge bases with a limit answers what the one without does, or stops, in the same way. */
@@ -325,7 +325,7 @@ static bool stops_bases(cg_graph graph, uint32_t first, const uint32_t *others, 
         if (told.code != CG_STOPPED || told.visits || told.length || told.ahead || told.behind || out[0] != 7) return false;
     }
     bool good = cg_merge_bases_within(graph, cg_num_commits(graph), others, count, few, out, ROOM).code == CG_NO_SUCH_POSITION;
-    return cg_flag_free(flag) && good;
+    return cg_flag_free(&flag) && good;
 }
 
 /* A shortest walk from a commit to another, and how many commits were visited. */
@@ -359,7 +359,9 @@ static uint8_t *copied(cg_bytes bytes, size_t *len) {
     copy[*len] = 7;
     if (cg_bytes_copy(bytes, 4, few, 4) != *len - 4 || few[4] != 7 || cg_bytes_copy(bytes, *len + 1, few + 4, 4) || few[4] != 7) exit(9);
     if (cg_bytes_copy(bytes, 0, copy, *len + 1) != *len || copy[*len] != 7 || memcmp(copy, "CGPH", 4) || memcmp(copy + 4, few, 4)) exit(9);
-    if (cg_bytes_copy(bytes, *len, few, 4) || !cg_bytes_free(bytes)) exit(9);
+    cg_lent lent = CG_NOT_LENT;
+    if (!cg_lend_bytes(bytes, &lent) || lent.len != *len || memcmp(lent.bytes, copy, *len)) exit(9);
+    if (cg_bytes_copy(bytes, *len, few, 4) || !cg_bytes_free(&bytes) || bytes.address || bytes.kept || cg_bytes_free(&bytes)) exit(9);
     return copy;
 }
 
@@ -411,7 +413,7 @@ static bool writes_on(cg_graph graph) {
         good = cg_layer_checksum(graph, i, first, len) == len && cg_base_id_at(top, 0, i, other, len) == len && !memcmp(first, other, len);
     }
     free(file);
-    return cg_close(top) && good;
+    return cg_close(&top) && good;
 }
 
 /* Whether the commits of a right graph, written to one file, are read from it again as they were. Where no longest walk is known
@@ -450,7 +452,7 @@ static bool writes_again(cg_graph graph, bool ends) {
         }
     }
     free(file);
-    return cg_close(read) && good;
+    return cg_close(&read) && good;
 }
 
 /* Whether the call for many pairs answers what the one for a commit and another does: in a room that ends too early, up to a pair that
@@ -535,6 +537,21 @@ static int probe(cg_graph graph, const char *name) {
     return refused;
 }
 
+/* Whether CG_CLOSED was left where a graph was taken, so that to close it once more does nothing. */
+static bool is_closed(cg_graph *graph) {
+    return !graph->address && !graph->opened && !cg_close(graph) && !graph->address && !graph->opened;
+}
+
+/* Whether none is left where a flag is freed; and where there was no graph, no flag and no bytes, whatever their address. */
+static bool is_left_as_none(void) {
+    cg_graph graph = { "", false };
+    cg_bytes bytes = { "", false };
+    cg_flag none = { "", false }, flag = CG_NO_FLAG;
+    if (cg_flag_new(&flag) || !cg_flag_free(&flag) || flag.address || flag.kept || cg_flag_free(&flag)) return false;
+    if (cg_flag_free(&none) || none.address || none.kept || cg_bytes_free(&bytes) || bytes.address || bytes.kept) return false;
+    return !cg_close(&graph) && is_closed(&graph);
+}
+
 /* What each call answers of no graph, and that none but cg_verify writes anything. */
 static bool closed_answers(void) {
     uint32_t out[1] = { 7 };
@@ -547,7 +564,7 @@ static bool closed_answers(void) {
     uint64_t date = 7;
     cg_layer_info layer = { .first = 7 };
     cg_layer_verdict alone = { .byte = 7 };
-    cg_graph none = CG_CLOSED;
+    cg_graph none = CG_CLOSED, closed = CG_CLOSED;
     cg_bases bases = { .code = 7 };
     cg_two two = { 0, 0 };
     cg_lent lent = CG_NOT_LENT;
@@ -555,13 +572,13 @@ static bool closed_answers(void) {
     if (cg_lookup_all(CG_CLOSED, id, 20, 20, out, 1) || cg_ids_at(CG_CLOSED, out, 1, id, 20).code != CG_CLOSED_GRAPH) return false;
     if (cg_merge_bases_of(CG_CLOSED, &two, 1, &bases, 1, out, 1).code != CG_CLOSED_GRAPH || bases.code != 7) return false;
     if (!refuses(CG_CLOSED, NULL, 0, (cg_write_error){ .code = CG_WRITE_NOTHING })) return false;
-    if (cg_bytes_copy(CG_NO_BYTES, 0, id, 20) || cg_bytes_free(CG_NO_BYTES)) return false;
+    if (cg_bytes_copy(CG_NO_BYTES, 0, id, 20) || cg_lend_bytes(CG_NO_BYTES, &lent) || lent.len || !is_left_as_none()) return false;
     if (cg_verify_layer(CG_CLOSED, 0, &alone) != CG_CLOSED_GRAPH || alone.code != CG_CLOSED_GRAPH || alone.byte) return false;
-    if (cg_close(CG_CLOSED) || cg_num_layers(CG_CLOSED) || cg_layer(CG_CLOSED, 0, &layer) || layer.first != 7) return false;
+    if (cg_num_layers(CG_CLOSED) || cg_layer(CG_CLOSED, 0, &layer) || layer.first != 7) return false;
     if (cg_layer_checksum(CG_CLOSED, 0, id, 20) || cg_base_id_at(CG_CLOSED, 0, 0, id, 20)) return false;
-    if (cg_check(CG_CLOSED, true, &verdict, &count, 1, &none) != CG_CLOSED_GRAPH || verdict.code != CG_CLOSED_GRAPH) return false;
-    if (cg_check_within(CG_CLOSED, true, limit, &verdict, &count, 1, &none) != CG_CLOSED_GRAPH || verdict.code != CG_CLOSED_GRAPH) return false;
-    if (cg_flag_raise(CG_NO_FLAG) || cg_flag_free(CG_NO_FLAG)) return false;
+    if (cg_check(&closed, true, &verdict, &count, 1, &none) != CG_CLOSED_GRAPH || verdict.code != CG_CLOSED_GRAPH) return false;
+    if (cg_check_within(&closed, true, limit, &verdict, &count, 1, &none) != CG_CLOSED_GRAPH || verdict.code != CG_CLOSED_GRAPH) return false;
+    if (cg_flag_raise(CG_NO_FLAG) || !is_closed(&closed)) return false;
     if (cg_ancestor_walk_within(CG_CLOSED, 0, 0, limit, out, 1).code != CG_CLOSED_GRAPH) return false;
     if (cg_is_ancestor_within(CG_CLOSED, 0, 0, limit).code != CG_CLOSED_GRAPH) return false;
     if (cg_merge_bases_within(CG_CLOSED, 0, out, 1, limit, out, 1).code != CG_CLOSED_GRAPH) return false;
@@ -694,20 +711,19 @@ static bool stops_check(const cg_file *files, size_t files_count, cg_verdict fou
     cg_graph opened = CG_CLOSED, checked = CG_CLOSED;
     cg_limit limit = { found.called, CG_NO_FLAG };
     if (cg_open(files, files_count, &opened).code) return false;
-    if (cg_check_within(opened, false, limit, &verdict, &count, 1, &checked) != found.code || verdict.code != found.code) return false;
+    if (cg_check_within(&opened, false, limit, &verdict, &count, 1, &checked) != found.code || verdict.code != found.code) return false;
     if (verdict.position != found.position || verdict.other != found.other || verdict.longest != found.longest) return false;
-    if (cg_close(checked) != !found.code || (found.code && count.parents != 7)) return false;
+    if (!is_closed(&opened) || cg_close(&checked) != !found.code || (found.code && count.parents != 7)) return false;
     cg_flag flag = CG_NO_FLAG;
     if (cg_flag_new(&flag) || !cg_flag_raise(flag) || !cg_flag_raise(flag)) return false;
     for (int turn = 0; found.called && turn < 2; turn++) {
         limit = turn ? (cg_limit){ UINT64_MAX, flag } : (cg_limit){ found.called - 1, CG_NO_FLAG };
-        opened = checked = CG_CLOSED;
         count.parents = 7;
         if (cg_open(files, files_count, &opened).code) return false;
-        if (cg_check_within(opened, false, limit, &verdict, &count, 1, &checked) != CG_STOPPED || verdict.code != CG_STOPPED) return false;
-        if (verdict.position != (turn ? 0 : found.called - 1) || verdict.called || checked.opened || count.parents != 7) return false;
+        if (cg_check_within(&opened, false, limit, &verdict, &count, 1, &checked) != CG_STOPPED || verdict.code != CG_STOPPED) return false;
+        if (!is_closed(&opened) || verdict.position != (turn ? 0 : found.called - 1) || verdict.called || checked.opened || count.parents != 7) return false;
     }
-    return cg_flag_free(flag);
+    return cg_flag_free(&flag);
 }
 
 /* Whether the check of an open graph hands it out checked where it is right, and tells what cg_verify tells. */
@@ -718,13 +734,13 @@ static bool same_checked(const cg_file *files, size_t files_count, cg_graph grap
     if (cg_open(files, files_count, &opened).code || !same_layers(opened, graph)) return false;
     uint32_t code = cg_verify(opened, false, &found, counts, ROOM);
     if (!stops_check(files, files_count, found)) return false;
-    if (cg_check(opened, false, &verdict, &count, 1, &checked) != code || verdict.code != code) return false;
+    if (cg_check(&opened, false, &verdict, &count, 1, &checked) != code || verdict.code != code || !is_closed(&opened)) return false;
     bool good = checked.opened == !code && (code || same_layers(checked, graph)) && (code || !found.kinds || count.parents == counts[0].parents)
         && cg_is_ancestor(checked, 0, 0).code == (code ? CG_CLOSED_GRAPH : cg_num_commits(checked) ? CG_OK : CG_NO_SUCH_POSITION);
     if (code && count.parents != 7) return false;
     good = good && verdict.longest == found.longest && verdict.position == found.position && verdict.other == found.other
         && verdict.layer == found.layer && verdict.index == found.index && verdict.kinds == found.kinds && verdict.num_commits == found.num_commits;
-    return cg_close(checked) == !code && good && verdict.called == (code ? 0 : found.called);
+    return cg_close(&checked) == !code && is_closed(&checked) && good && verdict.called == (code ? 0 : found.called);
 }
 
 /* Whether an id lies in the bytes of one of the files. */
@@ -743,14 +759,14 @@ static bool same_lent(const cg_file *files, size_t files_count) {
     cg_lent lent = CG_NOT_LENT;
     cg_error error = cg_open(files, files_count, &copied), told = cg_open_lent(files, files_count, &opened);
     if (told.code != error.code || told.layer != error.layer || opened.opened != copied.opened) return false;
-    if (error.code) return cg_open_lent(NULL, 0, &opened).code == CG_GRAPH_NO_FILES && !cg_close(opened);
+    if (error.code) return cg_open_lent(NULL, 0, &opened).code == CG_GRAPH_NO_FILES && !cg_close(&opened);
     uint32_t code = cg_verify(copied, false, &found, counts, ROOM), last = cg_num_commits(copied) - 1;
     bool good = same_layers(opened, copied) && cg_lend_id(opened, last, &lent) == (last != UINT32_MAX);
     good = good && (!lent.len || lies_in(lent, files, files_count));
     good = good && cg_lookup(opened, lent.bytes, lent.len) == cg_lookup(copied, lent.bytes, lent.len);
-    good = good && cg_check(opened, false, &verdict, counts, ROOM, &checked) == code && verdict.position == found.position;
-    good = good && (code || same_layers(checked, copied)) && cg_close(checked) == !code;
-    return cg_close(copied) && good;
+    good = good && cg_check(&opened, false, &verdict, counts, ROOM, &checked) == code && verdict.position == found.position;
+    good = good && is_closed(&opened) && (code || same_layers(checked, copied)) && cg_close(&checked) == !code;
+    return cg_close(&copied) && good;
 }
 
 /* What stands at a path. */
@@ -789,7 +805,7 @@ static bool same_at(const char *path, size_t len, uint32_t what, cg_error error,
     cg_path_error told = open_path(path, len, what, file, &opened);
     if (told.code) return told.code == error.code && told.layer == error.layer && told.length >= len && !memcmp(file, path, len) && !opened.opened;
     bool good = !error.code && !told.layer && !told.length && same_layers(opened, graph) && unchecked_answers(opened);
-    return cg_close(opened) && good;
+    return cg_close(&opened) && good;
 }
 
 /* What is told where nothing stands at a path, where a folder stands in the place of a file, and where a file was not read. */
@@ -870,5 +886,5 @@ int main(int argc, char **argv) {
     if (error.code) return not_opened(error, !strcmp(argv[2], "list"));
     if (!null_answers(graph) || !null_answers(CG_CLOSED)) return 9;
     int status = asks || unchecked_answers(graph) ? answer(graph, argc - 2, argv + 2) : 9;
-    return cg_close(graph) && closed_answers() ? status : 9;
+    return cg_close(&graph) && closed_answers() ? status : 9;
 }

@@ -173,11 +173,11 @@ static void stop(const cg_file *file, cg_graph graph, cg_pair pair) {
         cg_graph opened = CG_CLOSED, checked = CG_CLOSED;
         cg_verdict verdict;
         agree(!cg_open_lent(file, 1, &opened).code);
-        uint32_t code = cg_check_within(opened, true, limit, &verdict, NULL, 0, &checked);
+        uint32_t code = cg_check_within(&opened, true, limit, &verdict, NULL, 0, &checked);
         agree(code == (turn ? CG_STOPPED : CG_OK) && verdict.position == (turn == 1 ? KINDS / 2 : 0));
-        agree(cg_close(checked) == !code);
+        agree(!opened.opened && cg_close(&checked) == !code);
     }
-    agree(cg_flag_free(flag));
+    agree(cg_flag_free(&flag));
 }
 
 /* A text of many lines, each of one letter. */
@@ -225,7 +225,9 @@ static void write_again(cg_graph graph, uint32_t count) {
     agree(commits && !cg_write(CG_CLOSED, commits, count, &bytes).code);
     size_t len = (size_t)cg_bytes_copy(bytes, 0, NULL, 0);
     cg_file file = { room(len, 1), len, NULL, 0 };
-    agree(cg_bytes_copy(bytes, 0, (uint8_t *)(uintptr_t)file.bytes, len) == len && cg_bytes_free(bytes));
+    cg_lent lent = CG_NOT_LENT;
+    agree(cg_bytes_copy(bytes, 0, (uint8_t *)(uintptr_t)file.bytes, len) == len && cg_lend_bytes(bytes, &lent));
+    agree(lent.len == len && !memcmp(lent.bytes, file.bytes, len) && cg_bytes_free(&bytes));
     cg_graph again = CG_CLOSED;
     cg_verdict verdict;
     agree(!cg_open_checked(&file, 1, true, &verdict, NULL, 0, &again).code && verdict.num_commits == count);
@@ -241,7 +243,7 @@ static void write_again(cg_graph graph, uint32_t count) {
         agree(commit.generation == read.generation && cg_parents(graph, pos, parents, 2).count == cg_parents(again, pos, others, 2).count);
         agree(!memcmp(parents, others, sizeof parents));
     }
-    cg_close(again);
+    cg_close(&again);
 }
 
 static void tell(const cg_file *layer, cg_graph graph, cg_graph checked, const char *questions, const char *answers) {
@@ -277,12 +279,12 @@ static void opened_and_checked(const cg_file *file, cg_graph graph) {
     agree(cg_layer(opened, 0, &layer) && !layer.first && layer.num_commits == cg_num_commits(graph) && layer.hash == 1);
     agree(cg_layer_checksum(opened, 0, id, LEN) == LEN && !layer.bases && !cg_base_id_at(opened, 0, 0, id, LEN));
     uint32_t code = cg_verify(graph, true, &found, counts, KINDS);
-    agree(cg_check(opened, true, &verdict, counts, KINDS, &checked) == code && verdict.longest == found.longest);
+    agree(cg_check(&opened, true, &verdict, counts, KINDS, &checked) == code && verdict.longest == found.longest && !cg_close(&opened));
     agree(cg_num_commits(checked) == (code ? 0 : layer.num_commits));
     agree(cg_verify_layer(graph, 0, &alone) == alone.code && cg_verify_layer(graph, 1, &alone) == CG_NO_SUCH_LAYER);
     if (!code) agree(!cg_verify_layer(graph, 0, &alone) && alone.num_commits == layer.num_commits);
     if (!code) agree(alone.min_generation == 1 && alone.max_generation == found.longest + 1 && alone.max_parents);
-    cg_close(checked);
+    cg_close(&checked);
 }
 
 int main(int argc, char **argv) {
@@ -306,7 +308,7 @@ int main(int argc, char **argv) {
     print_check(graph, true);
     if (argc == 2) tell_chunks(graph, NULL, cg_num_commits(graph));
     if (argc == 4) tell(&file, graph, checked, argv[2], argv[3]);
-    cg_close(graph);
-    cg_close(checked);
+    cg_close(&graph);
+    cg_close(&checked);
     return 0;
 }

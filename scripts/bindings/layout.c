@@ -135,8 +135,8 @@ static void print_written(cg_graph graph) {
         cg_write_error told;
         memset(&told, OTHER, sizeof told);
         told = cg_write(graph, commits, count, &bytes);
-        PRINT("written", told.code, told.position, told.commit, told.other, told.layer, told.expected, N(bytes.kept),
-              N(cg_bytes_copy(bytes, 0, NULL, 0) > 1100), N(cg_bytes_free(bytes)));
+        bool kept = bytes.kept, whole = cg_bytes_copy(bytes, 0, NULL, 0) > 1100, freed = cg_bytes_free(&bytes);
+        PRINT("written", told.code, told.position, told.commit, told.other, told.layer, told.expected, N(kept), N(whole), N(freed));
     }
 }
 
@@ -170,7 +170,7 @@ int main(int argc, char **argv) {
     PRINT("missing", missing.code, missing.layer, missing.length, N(file[1]), N(file[2]));
     cg_line line = cg_chain_line((const uint8_t *)"abc\r\nd", 6, 0);
     PRINT("line", N(line.found), line.end, line.next);
-    cg_close(graph);
-    cg_close(checked);
+    cg_close(&graph);
+    cg_close(&checked);
     return 0;
 }

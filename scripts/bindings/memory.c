@@ -64,7 +64,7 @@ static outcome outcome_of(uint32_t code) {
 
 /* An error of opening, and what stands in the room of the graph after it. */
 static outcome opening(cg_error error, cg_graph opened) {
-    if (error.code == CG_OK) { cg_close(opened); return DONE; }
+    if (error.code == CG_OK) { cg_close(&opened); return DONE; }
     return error.code == CG_OUT_OF_MEMORY && opened.address == (void *)files && !opened.opened ? NO_MEMORY : WRONG;
 }
 
@@ -115,9 +115,9 @@ static outcome checking(bool limited) {
     left = later;
     memset(counts, OTHER, sizeof counts);
     cg_limit limit = { cg_num_commits(opened), CG_NO_FLAG };
-    uint32_t code = limited ? cg_check_within(opened, true, limit, &verdict, counts, 8, &checked)
-                            : cg_check(opened, true, &verdict, counts, 8, &checked);
-    if (verdict.code != code || (code && (verdict.called || !unwritten(counts, sizeof counts)))) return WRONG;
+    uint32_t code = limited ? cg_check_within(&opened, true, limit, &verdict, counts, 8, &checked)
+                            : cg_check(&opened, true, &verdict, counts, 8, &checked);
+    if (cg_close(&opened) || verdict.code != code || (code && (verdict.called || !unwritten(counts, sizeof counts)))) return WRONG;
     return opening((cg_error){ code, 0 }, checked);
 }
 
@@ -160,7 +160,7 @@ static outcome on_a_new_graph(outcome (*query)(void)) {
     outcome found = query();
     left = NONE;
     if (found == NO_MEMORY && query() != DONE) found = WRONG;
-    cg_close(graph);
+    cg_close(&graph);
     graph = other;
     return found;
 }
@@ -229,7 +229,7 @@ static outcome with_flag(void) {
     if (code != CG_OK) return flag.address == (void *)files && !flag.kept ? outcome_of(code) : WRONG;
     outcome found = within((cg_limit){ UINT64_MAX, flag });
     bool raised = cg_flag_raise(flag);
-    return cg_flag_free(flag) && raised ? found : WRONG;
+    return cg_flag_free(&flag) && raised ? found : WRONG;
 }
 
 static outcome ancestors(void) {
@@ -293,8 +293,10 @@ static outcome writing(cg_graph below, const cg_new_commit *commits, size_t coun
     cg_bytes bytes = { files, false };
     cg_write_error told = cg_write(below, commits, count, &bytes);
     if (told.code == CG_OK) {
+        cg_lent lent = CG_NOT_LENT;
         bool good = bytes.kept && cg_bytes_copy(bytes, 0, (uint8_t *)out, sizeof out) > 1100 && !memcmp(out, "CGPH", 4);
-        return cg_bytes_free(bytes) && good ? DONE : WRONG;
+        good = good && cg_lend_bytes(bytes, &lent) && lent.len > 1100 && !memcmp(lent.bytes, "CGPH", 4);
+        return cg_bytes_free(&bytes) && good ? DONE : WRONG;
     }
     bool silent = !told.position && !told.commit && !told.other && !told.layer && !told.expected;
     return silent && bytes.address == (void *)files && !bytes.kept ? outcome_of(told.code) : WRONG;
@@ -382,7 +384,7 @@ int main(int argc, char **argv) {
     if (cg_open_checked(files, layers, false, &verdict, counts, 8, &graph).code) return 3;
     if (!strcmp(argv[1], "check")) {
         printf("verify %ld\n", refusals("verify", verify));
-        cg_close(graph);
+        cg_close(&graph);
         return blocks;
     }
     from = position_of(argv[1]);
@@ -417,6 +419,6 @@ int main(int argc, char **argv) {
     free(all_commits);
     free(ids);
     printf("reading %ld\n", refusals("reading", reading));
-    cg_close(graph);
+    cg_close(&graph);
     return blocks;
 }

@@ -21,9 +21,9 @@ static uint32_t opened(void) {
     cg_error error = cg_open_lent(&file, 1, &own);
     char room[1];
     cg_path_error told = cg_open_known(path, file.path_len, CG_ANYTHING, &known, 1, room, 1, &other);
-    uint32_t count = cg_num_commits(own) + cg_check(other, true, &verdict, counts, 1, &checked) + cg_num_commits(checked);
-    cg_close(own);
-    cg_close(checked);
+    uint32_t count = cg_num_commits(own) + cg_check(&other, true, &verdict, counts, 1, &checked) + cg_num_commits(checked);
+    cg_close(&own);
+    cg_close(&checked);
     return count + error.code + told.code;
 }
 
@@ -40,7 +40,9 @@ static uint64_t written(void) {
         for (uint64_t i = 0; i < count; i++) all = all * 31 + part[i];
         size += count;
     }
-    return all * 31 + size + cg_bytes_free(bytes);
+    cg_lent lent = CG_NOT_LENT;
+    if (cg_lend_bytes(bytes, &lent)) all = all * 31 + lent.len + lent.bytes[lent.len - 1];
+    return all * 31 + size + cg_bytes_free(&bytes);
 }
 
 /* What calls answer with a flag that another thread may have raised before: a check stops, and searches that read nothing do not. */
@@ -55,8 +57,8 @@ static uint64_t stopped(void) {
     all = all * 31 + cg_ancestor_walk_within(graph, last, last, limit, out, ROOM).code;
     all = all * 31 + cg_is_ancestor_within(graph, last, last, limit).found;
     all = all * 31 + cg_merge_bases_within(graph, 0, &last, 1, limit, out, ROOM).code;
-    all = all * 31 + cg_check_within(own, false, limit, &verdict, counts, 1, &checked);
-    return all * 31 + cg_flag_free(other);
+    all = all * 31 + cg_check_within(&own, false, limit, &verdict, counts, 1, &checked);
+    return all * 31 + cg_flag_free(&other);
 }
 
 /* What many queries answer, so that those of several threads are made at a time. */
@@ -136,6 +138,6 @@ int main(int argc, char **argv) {
         pthread_join(threads[i], NULL);
         wrong += sums[i] != alone;
     }
-    cg_close(graph);
-    return wrong + !cg_flag_free(flag);
+    cg_close(&graph);
+    return wrong + !cg_flag_free(&flag);
 }

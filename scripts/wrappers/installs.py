@@ -31,7 +31,7 @@ INSTALLED = {
     *("share/doc/git-cgraph/LICENSE-MIT", "share/doc/git-cgraph/LICENSE-APACHE", "share/doc/git-cgraph/DIFFERENCES.md"),
 }
 OF_LIBRARY = {
-    *("include/commitgraph.h", "include/commitgraph_path.h", "lib/libcommitgraph.a", "lib/libcommitgraph.so", "lib/libcommitgraph.so.0"),
+    *("include/commitgraph.h", "include/commitgraph_path.h", "lib/libcommitgraph.a", "lib/libcommitgraph.so", "lib/libcommitgraph.so.1"),
     *("lib/libcommitgraph.so." + version.number(), "lib/pkgconfig/commitgraph.pc", "share/man/man3/commitgraph.3"),
     *("lib/cmake/commitgraph/commitgraph-config.cmake", "lib/cmake/commitgraph/commitgraph-config-version.cmake"),
 }
@@ -55,6 +55,9 @@ done
 """A `python3` in the place of scripts/proving.py: it notes the names of each run, and makes a file for each name."""
 MAKES = "#!/bin/sh\nwhile [ $# -gt 1 ]; do case $1 in -o | rcD) echo made >\"$2\" ;; esac; shift; done\n"
 """A tool that makes what it is asked for."""
+
+OF_KIT = "crates/commitgraph_c/out/toolchain/bin/"
+"""Where the tools of the kit are looked for if `rt` says nothing of it."""
 
 COMPLETE = """
 . "$1"
@@ -264,8 +267,8 @@ def check_pages(results, clone, prefix):
 def check_library(results, folder):
     """Where the proofs of changed sources fail, no library is made of what was proved before."""
     clone = Clone(folder)
-    for tool in ("rt", "ld", "objcopy", "ar"):
-        clone.put("bin/" + tool, MAKES)
+    for tool in ("bin/rt", "bin/ld", "bin/objcopy", "bin/ar", OF_KIT + "clang"):
+        clone.put(tool, MAKES)
     proved = "crates/commitgraph_c/out/libcommitgraph_c.a"
     clone.put(proved, "")
     clone.put("bin/python3", "#!/bin/sh\necho 'no proof' >&2\nexit 1\n")

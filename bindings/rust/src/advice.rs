@@ -5,8 +5,8 @@ use std::path::{Path, PathBuf};
 
 macro_rules! anew {
     () => {
-        "remove `.git/objects/info/commit-graph` and the folder `.git/objects/info/commit-graphs`, \
-         and then run `git commit-graph write --reachable`, with `--changed-paths` if it had filters"
+        "remove the files that were opened (of a chain, its whole folder), and then run `git commit-graph write --reachable` \
+         in their repository, with `--changed-paths` if they had filters"
     };
 }
 
@@ -45,7 +45,7 @@ pub(crate) const NOTHING: &str = "see whether `git rev-list --all` lists any";
 pub(crate) const NO_IDS: &str = "hand in whole ids";
 pub(crate) const TOO_MANY_LAYERS: &str = "write the chain anew as one file";
 
-/// What to do, with the paths of what was opened, where they are known, in the place of those of most repositories.
+/// What to do, with the paths of the files that were opened, where they are known.
 pub(crate) fn naming(advice: &str, opened: &[&Path]) -> String {
     let mut removed: Vec<_> = opened.iter().filter(|path| !path.as_os_str().is_empty()).map(|path| whole(path)).collect();
     removed.dedup();
@@ -67,8 +67,8 @@ fn whole(path: &Path) -> String {
 }
 
 impl Graph {
-    /// The advice of an error that this graph is the cause of, such as [`DatesError::advice`], with the paths of what was opened in the
-    /// place of those of most repositories.
+    /// The advice of an error that this graph is the cause of, such as [`DatesError::advice`], with the paths of the files that were
+    /// opened.
     #[must_use]
     pub fn advice_with_paths(&self, advice: &str) -> String {
         naming(advice, &self.paths.iter().map(PathBuf::as_path).collect::<Vec<_>>())

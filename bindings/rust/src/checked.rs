@@ -96,8 +96,8 @@ impl Checked {
     /// once more for the commit that has the fault.
     pub fn of_graph(graph: Graph, options: VerifyOptions) -> Result<Checked, OpenError> {
         Checked::given_back(graph, options, |given, verdict, counts, raw| {
-            // SAFETY: `given` is open, and no copy of it is used from here on; `raw` is CG_CLOSED, and the other pointers are
-            // those of a value, and of an array of ROOM places.
+            // SAFETY: `given` is that of an open graph, which no copy of it outlives; `raw` is that of CG_CLOSED, and the other
+            // pointers are those of a value, and of an array of ROOM places.
             unsafe { sys::cg_check(given, options.distinct_ids, verdict, counts, ROOM, raw) }
         })
     }
@@ -119,16 +119,14 @@ impl Checked {
     fn given_back(
         mut graph: Graph,
         options: VerifyOptions,
-        check: impl FnOnce(sys::Graph, *mut sys::Verdict, *mut sys::Count, *mut sys::Graph) -> u32,
+        check: impl FnOnce(*mut sys::Graph, *mut sys::Verdict, *mut sys::Count, *mut sys::Graph) -> u32,
     ) -> Result<Checked, OpenError> {
         let mut counts = [sys::Count::default(); ROOM];
         let mut verdict = sys::Verdict::default();
-        let (mut raw, given, paths) = (sys::CLOSED, graph.raw, std::mem::take(&mut graph.paths));
+        let (mut raw, paths) = (sys::CLOSED, std::mem::take(&mut graph.paths));
         // What the call hands out, and until it has closed the graph the call itself, reads the same bytes.
         let bytes = std::mem::take(&mut graph.bytes);
-        // The call closes it.
-        std::mem::forget(graph);
-        match check(given, &mut verdict, counts.as_mut_ptr(), &mut raw) {
+        match check(&mut graph.raw, &mut verdict, counts.as_mut_ptr(), &mut raw) {
             codes::OK => {
                 let mut graph = Graph::of_raw(raw, paths);
                 graph.bytes = bytes;

@@ -94,7 +94,7 @@ unsafe impl Sync for Graph {}
 impl Drop for Graph {
     fn drop(&mut self) {
         // SAFETY: `raw` is what `cg_open` wrote, and no copy of it is used from here on.
-        unsafe { sys::cg_close(self.raw) };
+        unsafe { sys::cg_close(&mut self.raw) };
     }
 }
 

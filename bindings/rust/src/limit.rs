@@ -37,7 +37,7 @@ impl Flag {
 impl Drop for Flag {
     fn drop(&mut self) {
         // SAFETY: a `Limit` that has the flag borrows it, so no call looks at it from here on.
-        unsafe { sys::cg_flag_free(self.raw) };
+        unsafe { sys::cg_flag_free(&mut self.raw) };
     }
 }
 

@@ -285,7 +285,7 @@ extern "C" {
         out: *mut Graph,
     ) -> PathError;
     pub fn cg_check(
-        graph: Graph,
+        graph: *mut Graph,
         distinct_ids: bool,
         verdict: *mut Verdict,
         counts: *mut Count,
@@ -293,7 +293,7 @@ extern "C" {
         out: *mut Graph,
     ) -> u32;
     pub fn cg_check_within(
-        graph: Graph,
+        graph: *mut Graph,
         distinct_ids: bool,
         limit: Limit,
         verdict: *mut Verdict,
@@ -301,10 +301,10 @@ extern "C" {
         counts_len: usize,
         out: *mut Graph,
     ) -> u32;
-    pub fn cg_close(graph: Graph) -> bool;
+    pub fn cg_close(graph: *mut Graph) -> bool;
     pub fn cg_flag_new(out: *mut Flag) -> u32;
     pub fn cg_flag_raise(flag: Flag) -> bool;
-    pub fn cg_flag_free(flag: Flag) -> bool;
+    pub fn cg_flag_free(flag: *mut Flag) -> bool;
     pub fn cg_num_layers(graph: Graph) -> u64;
     pub fn cg_layer(graph: Graph, layer: u64, out: *mut Layer) -> bool;
     pub fn cg_verify_layer(graph: Graph, layer: u64, out: *mut LayerVerdict) -> u32;
@@ -392,7 +392,8 @@ extern "C" {
     pub fn cg_ids_at(graph: Graph, positions: *const u32, count: usize, out: *mut u8, len: usize) -> Answered;
     pub fn cg_write(graph: Graph, commits: *const NewCommit, count: usize, out: *mut Bytes) -> WriteError;
     pub fn cg_bytes_copy(bytes: Bytes, start: u64, out: *mut u8, len: usize) -> u64;
-    pub fn cg_bytes_free(bytes: Bytes) -> bool;
+    pub fn cg_lend_bytes(bytes: Bytes, out: *mut Lent) -> bool;
+    pub fn cg_bytes_free(bytes: *mut Bytes) -> bool;
 }
 
 /// The sizes and offsets of these structs, as `commitgraph.h` has them on a machine of 64 bits.

@@ -156,9 +156,10 @@ struct File {
 
 impl File {
     fn bytes(&self) -> Result<Vec<u8>, TryReserveError> {
-        // SAFETY: here and below, `raw` is what `cg_write` wrote; nothing is written where there is no room.
-        let len = unsafe { sys::cg_bytes_copy(self.raw, 0, std::ptr::NonNull::dangling().as_ptr(), 0) };
-        let mut bytes = room_for(0, len as usize)?;
+        let mut lent = sys::NOT_LENT;
+        // SAFETY: here and below, `raw` is what `cg_write` wrote; and `lent` is CG_NOT_LENT.
+        unsafe { sys::cg_lend_bytes(self.raw, &mut lent) };
+        let mut bytes = room_for(0, lent.len)?;
         // SAFETY: the pointer and the length are those of a vector.
         unsafe { sys::cg_bytes_copy(self.raw, 0, bytes.as_mut_ptr(), bytes.len()) };
         Ok(bytes)
@@ -168,7 +169,7 @@ impl File {
 impl Drop for File {
     fn drop(&mut self) {
         // SAFETY: no copy of `raw` is used from here on.
-        unsafe { sys::cg_bytes_free(self.raw) };
+        unsafe { sys::cg_bytes_free(&mut self.raw) };
     }
 }
 

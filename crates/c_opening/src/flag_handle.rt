@@ -7,6 +7,7 @@ use crate::flag::KeptFlag;
 use std::alloc::Global;
 use std::marker::{Model, Send};
 use std::mem::{ManuallyDrop, replace};
+use std::ptr::null_mut;
 
 /// The address of a flag that C lends for a call, or of none. Many calls may look at one flag at a
 /// time, and raise it.
@@ -75,6 +76,16 @@ impl Model for CgFlagOwned {
 }
 
 impl CgFlagOwned {
+    /// The address of none.
+    fn none(alloc: Global) -> CgFlagOwned
+        ensures { result.held ≡ None }
+    {
+        CgFlagOwned {
+            at: null_mut(),
+            alloc,
+        }
+    }
+
     /// The address of what a box holds.
     fn of(flag: Box<KeptFlag>) -> CgFlagOwned
         ensures { result.held ≡ Some flag.value }
@@ -120,6 +131,25 @@ impl Drop for CgFlagOwner {
 }
 
 impl CgFlagOwner {
+    /// No flag.
+    fn none(alloc: Global) -> CgFlagOwner
+        ensures { result.address.held ≡ None }
+    {
+        CgFlagOwner {
+            address: CgFlagOwned::none(alloc),
+            kept: false,
+        }
+    }
+
+    /// Takes the flag, in its box, if there is one, and leaves none.
+    pub(crate) fn take(&mut self, alloc: Global) -> Option<Box<KeptFlag>>
+        ensures taken { self.old.address.held ≡ option_map (λ flag. flag.value) result }
+        ensures none { self.new.address.held ≡ None }
+    {
+        let before = replace(self, CgFlagOwner::none(alloc));
+        before.into_box()
+    }
+
     /// Writes a flag, in its box. What was there before is not freed.
     pub(crate) fn write(&mut self, flag: Box<KeptFlag>)
         ensures { self.new.address.held ≡ Some flag.value }
@@ -139,7 +169,7 @@ impl CgFlagOwner {
     }
 
     /// The flag, in its box, if there is one.
-    pub(crate) fn into_box(self) -> Option<Box<KeptFlag>>
+    fn into_box(self) -> Option<Box<KeptFlag>>
         ensures { self.address.held ≡ option_map (λ flag. flag.value) result }
     {
         let CgFlagOwner { address, kept } = self;

@@ -1,6 +1,6 @@
 //! Flags that stop a search or a check, and limits.
 
-ghost use Rattle.std.specs.Prelude.{◌≡◌, ◌≢◌, ◌⊎◌, IsSome, is_some};
+ghost use Rattle.std.specs.Prelude.{◌≡◌, ◌≢◌, ◌⊎◌, IsSome, None, is_some};
 ghost use Rattle.c_opening.specs.Codes.{out_of_memory};
 
 use crate::codes::OUT_OF_MEMORY;
@@ -61,11 +61,12 @@ pub fn cg_flag_raise(flag: CgFlag) -> bool
     true
 }
 
-/// Frees a flag, and answers whether there was one to free.
-pub fn cg_flag_free(flag: CgFlagOwner) -> bool
-    ensures { result ≡ is_some flag.address.held }
+/// Frees a flag, leaves none where it was, and answers whether there was one to free.
+pub fn cg_flag_free(alloc: Global, flag: &mut CgFlagOwner) -> bool
+    ensures freed { result ≡ is_some flag.old.address.held }
+    ensures taken { flag.new.address.held ≡ None }
 {
-    match flag.into_box() {
+    match flag.take(alloc) {
         Some(kept) => {
             drop(kept);
             true

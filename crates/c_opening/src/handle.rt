@@ -10,6 +10,7 @@ use gix_commitgraph::Graph;
 use std::alloc::Global;
 use std::marker::{Model, Send};
 use std::mem::{ManuallyDrop, replace};
+use std::ptr::null_mut;
 
 /// The address of a graph that C lends for a call, or of none. Many calls may read one graph at a
 /// time.
@@ -104,6 +105,16 @@ impl Model for CgOwned {
 }
 
 impl CgOwned {
+    /// The address of none.
+    fn none(alloc: Global) -> CgOwned
+        ensures { result.held ≡ None }
+    {
+        CgOwned {
+            at: null_mut(),
+            alloc,
+        }
+    }
+
     /// The address of what a box holds.
     fn of(graph: Box<Opened>) -> CgOwned
         ensures { result.held ≡ Some graph.value }
@@ -149,6 +160,25 @@ impl Drop for CgOwner {
 }
 
 impl CgOwner {
+    /// No graph.
+    fn none(alloc: Global) -> CgOwner
+        ensures { result.address.held ≡ None }
+    {
+        CgOwner {
+            address: CgOwned::none(alloc),
+            opened: false,
+        }
+    }
+
+    /// Takes the graph, in its box, if there is one, and leaves none.
+    pub(crate) fn take(&mut self, alloc: Global) -> Option<Box<Opened>>
+        ensures taken { self.old.address.held ≡ option_map (λ graph. graph.value) result }
+        ensures none { self.new.address.held ≡ None }
+    {
+        let before = replace(self, CgOwner::none(alloc));
+        before.into_box()
+    }
+
     /// Writes a graph, in its box. What was there before is not freed.
     pub(crate) fn write(&mut self, graph: Box<Opened>)
         ensures { self.new.address.held ≡ Some graph.value }
@@ -168,7 +198,7 @@ impl CgOwner {
     }
 
     /// The graph, in its box, if there is one.
-    pub(crate) fn into_box(self) -> Option<Box<Opened>>
+    fn into_box(self) -> Option<Box<Opened>>
         ensures { self.address.held ≡ option_map (λ graph. graph.value) result }
     {
         let CgOwner { address, opened } = self;

@@ -8,6 +8,7 @@ use crate::kept::Kept;
 use std::alloc::Global;
 use std::marker::{Model, Send};
 use std::mem::{ManuallyDrop, replace};
+use std::ptr::null_mut;
 
 /// The address of bytes that C lends for a call, or of none. Many calls may read them at a time.
 #[repr(C)]
@@ -75,6 +76,16 @@ impl Model for CgBytesOwned {
 }
 
 impl CgBytesOwned {
+    /// The address of none.
+    fn none(alloc: Global) -> CgBytesOwned
+        ensures { result.held ≡ None }
+    {
+        CgBytesOwned {
+            at: null_mut(),
+            alloc,
+        }
+    }
+
     /// The address of what a box holds.
     fn of(bytes: Box<Kept>) -> CgBytesOwned
         ensures { result.held ≡ Some bytes.value }
@@ -120,6 +131,25 @@ impl Drop for CgBytesOwner {
 }
 
 impl CgBytesOwner {
+    /// No bytes.
+    fn none(alloc: Global) -> CgBytesOwner
+        ensures { result.address.held ≡ None }
+    {
+        CgBytesOwner {
+            address: CgBytesOwned::none(alloc),
+            kept: false,
+        }
+    }
+
+    /// Takes the bytes, in their box, if there are any, and leaves none.
+    pub fn take(&mut self, alloc: Global) -> Option<Box<Kept>>
+        ensures taken { self.old.address.held ≡ option_map (λ bytes. bytes.value) result }
+        ensures none { self.new.address.held ≡ None }
+    {
+        let before = replace(self, CgBytesOwner::none(alloc));
+        before.into_box()
+    }
+
     /// Writes bytes, in their box. What was there before is not freed.
     pub fn write(&mut self, bytes: Box<Kept>)
         ensures { self.new.address.held ≡ Some bytes.value }
@@ -139,7 +169,7 @@ impl CgBytesOwner {
     }
 
     /// The bytes, in their box, if there are any.
-    pub fn into_box(self) -> Option<Box<Kept>>
+    fn into_box(self) -> Option<Box<Kept>>
         ensures { self.address.held ≡ option_map (λ bytes. bytes.value) result }
     {
         let CgBytesOwner { address, kept } = self;

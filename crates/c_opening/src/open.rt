@@ -129,38 +129,39 @@ pub fn cg_open_checked(
     }
 }
 
-/// Checks an open graph and hands it out checked. The graph that is passed is taken as by
-/// `cg_close`, also where it is refused. The answer is the verdict's code.
+/// Checks an open graph and hands it out checked. None is left where the graph that is passed was,
+/// also where it is refused, and it is freed then. The answer is the verdict's code.
 pub fn cg_check(
     alloc: Global,
-    graph: CgOwner,
+    graph: &mut CgOwner,
     distinct_ids: bool,
     verdict: &mut CgVerdict,
     counts: &mut [CgCount],
     out: &mut CgOwner,
 ) -> u32
     ensures code { result ≡ verdict.new.code }
-    ensures opened { result ≡ 0 → IsSomeAnd graph.address.held (λ was.
+    ensures taken { graph.new.address.held ≡ None }
+    ensures opened { result ≡ 0 → IsSomeAnd graph.old.address.held (λ was.
         out.new.address.held ≡ Some (was.0, true)) }
-    ensures right { result ≡ 0 → IsSomeAnd graph.address.held (λ was.
+    ensures right { result ≡ 0 → IsSomeAnd graph.old.address.held (λ was.
         IsSoundWith (options_of distinct_ids) was.0) }
-    ensures verdict { result ≡ 0 → IsSomeAnd graph.address.held (λ was.
+    ensures verdict { result ≡ 0 → IsSomeAnd graph.old.address.held (λ was.
         TellsStats was.0 verdict.new × TellsCounts was.0 verdict.new counts.old counts.new) }
-    ensures refused { result ≢ 0 → IfSome graph.address.held (λ was.
+    ensures refused { result ≢ 0 → IfSome graph.old.address.held (λ was.
         TellsRefusal (options_of distinct_ids) was.0 verdict.new
         ⊎ (verdict.new ≡ told_unopened (told_graph GraphError.OutOfMemory))) }
     ensures uncalled { result ≢ 0 → verdict.new.called ≡ 0 }
-    ensures closed { IfNone graph.address.held (verdict.new ≡ closed_verdict) }
+    ensures closed { IfNone graph.old.address.held (verdict.new ≡ closed_verdict) }
     ensures kept { result ≢ 0 → (out.new ≡ out.old) × (counts.new ≡ counts.old) }
 {
-    let Some(opened) = graph.into_box() else {
+    let Some(opened) = graph.take(alloc) else {
         *verdict = refused(CLOSED_GRAPH);
         return CLOSED_GRAPH;
     };
-    let graph = Box::into_inner(opened).into_graph();
+    let unchecked = Box::into_inner(opened).into_graph();
     let options = VerifyOptions { distinct_ids };
-    match CheckedGraph::new_with(alloc, options, graph) {
-        Ok(graph) => hand_out(alloc, graph, verdict, counts, out).code,
+    match CheckedGraph::new_with(alloc, options, unchecked) {
+        Ok(checked) => hand_out(alloc, checked, verdict, counts, out).code,
         Err(refusal) => {
             *verdict = wrong(refusal);
             verdict.code
@@ -227,11 +228,12 @@ pub(crate) fn boxed(alloc: Global, opened: Opened) -> Result<Box<Opened>, CgErro
     }
 }
 
-/// Frees a graph, and answers whether there was one to free.
-pub fn cg_close(graph: CgOwner) -> bool
-    ensures { result ≡ is_some graph.address.held }
+/// Frees a graph, leaves none where it was, and answers whether there was one to free.
+pub fn cg_close(alloc: Global, graph: &mut CgOwner) -> bool
+    ensures freed { result ≡ is_some graph.old.address.held }
+    ensures taken { graph.new.address.held ≡ None }
 {
-    match graph.into_box() {
+    match graph.take(alloc) {
         Some(opened) => {
             drop(opened);
             true

@@ -1,7 +1,7 @@
 //! Writing a layer.
 
 ghost use Rattle.std.specs.Prelude.{◌≡◌, ◌≢◌, ◌↔◌, [], All, drop, false, IfErr, IfOk, IsSomeAnd};
-ghost use Rattle.std.specs.Prelude.{is_some, length, unwrap_or};
+ghost use Rattle.std.specs.Prelude.{None, is_some, length, unwrap_or};
 ghost use Rattle.graph_writer.specs.NewCommits.{layers_of_below};
 ghost use Rattle.c_opening.specs.Answers.{written};
 ghost use Rattle.c_opening.specs.Codes.{no_ids, not_checked};
@@ -203,11 +203,13 @@ pub fn cg_bytes_copy(bytes: CgBytes, start: u64, out: &mut [u8]) -> u64
     rest.len() as u64
 }
 
-/// Frees bytes that are kept, and answers whether there were some to free.
-pub fn cg_bytes_free(bytes: CgBytesOwner) -> bool
-    ensures { result ≡ is_some bytes.address.held }
+/// Frees bytes that are kept, leaves none where they were, and answers whether there were some to
+/// free.
+pub fn cg_bytes_free(alloc: Global, bytes: &mut CgBytesOwner) -> bool
+    ensures freed { result ≡ is_some bytes.old.address.held }
+    ensures taken { bytes.new.address.held ≡ None }
 {
-    match bytes.into_box() {
+    match bytes.take(alloc) {
         Some(kept) => {
             drop(kept);
             true

@@ -1,13 +1,14 @@
-//! Ids that are lent from an open graph.
+//! Bytes that are lent: the ids of an open graph, and what a call has made.
 
-ghost use Rattle.std.specs.Prelude.{◌≡◌, ◌≤◌, IfSome, IsTrue, false};
+ghost use Rattle.std.specs.Prelude.{◌≡◌, ◌≤◌, IfSome, IsTrue, Some, false, is_some};
 ghost use Rattle.gix_commitgraph.specs.Graph.{total};
 ghost use Rattle.c_opening.specs.Answers.{HasId, HasRecord, layers_of};
 
-use c_opening::CgGraph;
+use c_opening::{CgBytes, CgGraph};
 use gix_commitgraph::Position;
 
-/// The bytes of an id, which are lent until the graph is closed: for C a pointer and a length.
+/// Bytes that are lent: those of an id until the graph is closed, those that a call has made until
+/// they are freed. For C they are a pointer and a length.
 #[repr(C)]
 #[derive(Clone, Copy)]
 pub struct CgLent {
@@ -48,5 +49,20 @@ pub fn cg_lend_tree(graph: CgGraph, pos: u32, out: &mut CgLent) -> bool
     }
     let bytes = graph.commit_at(Position(pos)).root_tree_id().as_bytes();
     *out = CgLent { bytes };
+    true
+}
+
+/// Lends the bytes that a call has made, until they are freed. Answers whether there are some.
+pub fn cg_lend_bytes(bytes: CgBytes, out: &mut CgLent) -> bool
+    ensures lent { IsTrue result → bytes.address.held ≡ Some out.new.bytes.now }
+    ensures some { result ≡ is_some bytes.address.held }
+    ensures kept { result ≡ false → out.new ≡ out.old }
+{
+    let Some(kept) = bytes.kept() else {
+        return false;
+    };
+    *out = CgLent {
+        bytes: kept.bytes(),
+    };
     true
 }

@@ -33,7 +33,7 @@ pub use first_parent::{CgParent, cg_first_parent};
 pub use first_parents::cg_first_parents;
 pub use layer_check::{CgLayerVerdict, cg_verify_layer};
 pub use layers::{CgLayer, cg_base_id_at, cg_layer, cg_layer_checksum, cg_num_layers};
-pub use lent::{CgLent, cg_lend_id, cg_lend_tree};
+pub use lent::{CgLent, cg_lend_bytes, cg_lend_id, cg_lend_tree};
 pub use lookups::{cg_ids_at, cg_lookup_all};
 pub use matched::{CgMatched, cg_matches};
 pub use pairs::{CgAnswered, CgPair, cg_are_ancestors};

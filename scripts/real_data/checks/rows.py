@@ -10,9 +10,9 @@ TOO_LARGE = {"refused open 6 graph 2", "refused file 14"}
 NO_MEMORY = "memory ran out"
 """The beginning of rows whose lines depend on the machine; scripts/refused_memory has them all."""
 
-ELSEWHERE = {None, "When there is no answer", "What Git refuses besides", "Writing a layer, from C"}
+ELSEWHERE = {None, "When there is no answer", "What Git refuses besides", "What to do, from the library", "Writing a layer, from C"}
 """Sections with rows of no line, of lines on standard error and of lines of `git cgraph`, which scripts/wrappers has, and of
-codes of the library, which scripts/bindings has."""
+the library, which scripts/bindings has."""
 
 
 def check_rows(results):
