@@ -11,9 +11,12 @@ SECONDS = 300
 
 
 def run(words, given=os.devnull):
-    """The status of a program, and what it writes; of what it writes to standard error too, if that is anything."""
+    """The status of a program, None where it hangs, and what it writes, also to standard error."""
     with open(given, "rb") as source:
-        ended = subprocess.run(words, stdin=source, capture_output=True, env={}, timeout=SECONDS, check=False)
+        try:
+            ended = subprocess.run(words, stdin=source, capture_output=True, env={}, timeout=SECONDS, check=False)
+        except subprocess.TimeoutExpired:
+            return None, b""
     return ended.returncode, ended.stdout + ended.stderr
 
 
@@ -61,7 +64,10 @@ def ask_questions(program, rows, shape, flags):
 
 def ask_call(row, asked):
     """A complaint about what a call answers, or None."""
-    seen, right = row.ask(asked)
+    try:
+        seen, right = row.ask(asked)
+    except exports.NotOpened as error:
+        return str(error)
     if seen == right:
         return None
     return "it answers %s, and not %s" % (excerpt(seen), excerpt(right))
@@ -95,9 +101,16 @@ class Rows:
         for flags in ([], ["--unchecked"]) if questions else ():
             for name, complaint in ask_questions(self.programs["ask"], questions, shape, flags):
                 results.check(" ".join(["%s: %s" % (shape.title(), name), *flags]), complaint)
-        calls = list(self.of(table.CALLS, shape))
-        asked = exports.Asked(Library(self.library), shape) if calls else None
-        for row in calls:
+        self.ask_calls(results, list(self.of(table.CALLS, shape)), shape)
+
+    def ask_calls(self, results, rows, shape):
+        """Makes the calls of some rows."""
+        try:
+            asked = exports.Asked(Library(self.library), shape) if rows else None
+        except exports.NotOpened as error:
+            results.check("%s: the library opens it" % shape.title(), str(error))
+            return
+        for row in rows:
             results.check("%s: %s" % (shape.title(), row.name), ask_call(row, asked))
         if asked:
             asked.close()

@@ -11,6 +11,10 @@ from sizes.shapes import MANY
 PATH = b"a"
 
 
+class NotOpened(Exception):
+    """The library does not open a graph, or refuses it."""
+
+
 class Asked:
     """The graph of a shape in the library: opened, opened and checked, and, checked too, the layers below the new one."""
 
@@ -49,7 +53,7 @@ class Asked:
         graph = self.new("cg_graph")
         error = getattr(self.library, call)(self.files, len(self.files), ctypes.byref(graph))
         if told(error) != (0, 0):
-            raise ValueError("%s answers %s" % (call, told(error)))
+            raise NotOpened("%s answers %s" % (call, told(error)))
         return graph
 
     def opened_checked(self, files):
@@ -58,7 +62,7 @@ class Asked:
         taken = files, len(files), True, ctypes.byref(verdict), None, 0, ctypes.byref(graph)
         error = self.library.cg_open_checked(*taken)
         if told(error) != (0, 0):
-            raise ValueError("cg_open_checked answers %s and %s" % (told(error), told(verdict)))
+            raise NotOpened("cg_open_checked answers %s and %s" % (told(error), told(verdict)))
         return graph
 
     def close(self):

@@ -30,22 +30,25 @@ def names():
 
 
 class Library:
-    """The shared library at a path. Its calls, structs and codes are attributes of the names in the header."""
+    """The shared library at a path. Its calls, structs and codes are attributes of the names in the header. The calls may have other names
+    in the library, with a prefix."""
 
-    def __init__(self, path):
-        self.calls, self.types, text = ctypes.CDLL(path), dict(SCALARS), header()
+    def __init__(self, path, prefix=""):
+        self.calls, self.types, text = {}, dict(SCALARS), header()
+        functions = ctypes.CDLL(path)
         self.version = int(VERSION.search(text).group(1))
         for name, fields in STRUCT.findall(text):
             self.types[name] = type(name, (ctypes.Structure,), {"_fields_": list(self.fields(fields))})
         for result, name, taken in CALL.findall(text):
-            call = getattr(self.calls, name)
+            call = self.calls[name] = getattr(functions, prefix + name)
             call.restype = self.types[result.split()[-1]]
-            call.argtypes = [self.type_of(word) for word in taken.split(",") if word != "void"]
+            call.argtypes = [self.type_of(word) for word in parameters(taken)]
         vars(self).update({name: int(number) for name, number in CODE.findall(text)})
 
     def __getattr__(self, name):
-        types = vars(self)["types"]
-        return types[name] if name in types else getattr(vars(self)["calls"], name)
+        if name not in self.calls:
+            raise AttributeError(name)
+        return self.calls[name]
 
     def fields(self, text):
         """The fields of a struct, as pairs of a name and a type."""
@@ -64,6 +67,19 @@ class Library:
     def room(self, name, count):
         """Room for so many values of a type, at least one."""
         return (self.types[name] * max(1, count))()
+
+
+def parameters(taken):
+    """The declarations of the parameters of a call."""
+    return [word.strip() for word in taken.split(",") if word.strip() != "void"]
+
+
+def wrappers(prefix):
+    """The text of a C file with a function for each call, which has its name behind a prefix, and does nothing but call it."""
+    yield '#include "commitgraph.h"\n'
+    for result, name, taken in CALL.findall(header()):
+        handed = ", ".join(re.findall(r"\w+", word)[-1] for word in parameters(taken))
+        yield "%s %s%s(%s) { return %s(%s); }\n" % (result, prefix, name, taken, name, handed)
 
 
 def told(value):

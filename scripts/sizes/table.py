@@ -59,6 +59,11 @@ def tip(shape):
     return shape.order()[-1] if len(shape.layers) > 1 else shape.count - 1
 
 
+def last(shape):
+    """The id of the commit at the last position."""
+    return hexes(shape, shape.order()[-1])
+
+
 def path(*more):
     """The words of a command that takes a path, and then what these functions give."""
     return lambda shape: [shape.path, *(word for part in more for word in part(shape))]
@@ -146,6 +151,7 @@ COMMANDS = (
     Row("verify", EACH, path(), answers.verified),
     Row("distinct", UNREAD, path(), answers.verified),
     Row("find", EACH, path(lambda shape: hexes(shape, tip(shape))), found),
+    Row("find: last", EACH, path(last), lambda shape: answers.found(shape, shape.order()[-1])),
     Row("find: none", UNREAD, path(lambda shape: ["fe" * shape.plan.size]), none),
     Row("ancestor", UNREAD, path(ends), answers.walk_of_positions),
     Row("is-ancestor", UNREAD, path(below), yes),
@@ -173,12 +179,14 @@ COMMANDS = (
 
 QUESTIONS = (
     Row("ask find", EACH, lambda shape: hexes(shape, tip(shape)), found),
+    Row("ask find: last", EACH, last, lambda shape: answers.found(shape, shape.order()[-1])),
     Row("ask is-ancestor", EACH, below, yes),
     Row("ask is-ancestor: no", UNREAD, apart, no),
     Row("ask walk", EACH, ends, walked),
     Row("ask walk: none", UNREAD, reversed_pair, none),
     Row("ask merge-base", EACH, asked_bases, answers.compared),
     Row("ask parents", EACH, lambda shape: hexes(shape, tip(shape)), lambda shape: answers.parents(shape, tip(shape))),
+    Row("ask parents: last", EACH, last, lambda shape: answers.parents(shape, shape.order()[-1])),
     Row("ask reload", EACH, lambda shape: [], counted),
 )
 """The questions, which are asked one after another in one run, and then all once more; checked and unchecked."""
