@@ -20,7 +20,8 @@ class Shape:
     def __init__(self, name, plan, walk, apart, compared, shown=None):
         self.name, self.plan, self.kind = name, plan, plan.kind
         self.walk, self.apart = walk, apart
-        self.first, self.others, self.bases, self.ahead, self.behind = compared
+        self.first, self.others, bases, self.ahead, self.behind = compared
+        self.bases = sorted(bases, key=plan.positions.__getitem__)
         self.layers = plan.layers[:-1] if shown is None else plan.layers[:shown]
         self.count = sum(self.layers)
         self.top = self.layers[-1]
@@ -44,7 +45,8 @@ class Shape:
 
     def one_file(self, filters=None):
         """The bytes of one file with all commits that are asked about, and these filters."""
-        if len(self.layers) == 1 and filters == self.plan.filters and not self.plan.padding:
+        plan = self.plan
+        if len(self.layers) == 1 and filters == plan.filters and not plan.padding and not plan.shared:
             return self.contents[0]
         return next(self.plan.in_layers([self.count], filters).files())
 

@@ -103,7 +103,7 @@ def walked(shape):
 
 def bases(shape):
     """The lines of the ids of the merge bases."""
-    return answers.ids(shape, sorted(shape.bases, key=shape.plan.positions.__getitem__))
+    return answers.ids(shape, shape.bases)
 
 
 def found(shape):
