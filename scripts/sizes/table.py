@@ -1,0 +1,247 @@
+"""The table: each command, each question and each call of the library for C, the shapes that it is asked about, and what it has to
+answer of each by the plan. What is new joins by a row.
+
+A row of a command has its words, and a function each for what standard input has and for the answer; the status is 1 after `no` and
+`none`, and else 0. A row of a question has its line. A row of a call has a function of `exports.py` or one here, which makes the call,
+and gives what was answered beside what it has to be.
+"""
+
+import ctypes
+from typing import Any, Callable, NamedTuple, Tuple
+
+from sizes import answers, exports
+
+EACH = ("long", "octopus", "big", "wide", "chain", "padded")
+"""All shapes."""
+
+UNREAD = ("long", "octopus", "big", "wide", "chain")
+"""The shapes but the one that takes longest, because it is the largest file."""
+
+
+class Row(NamedTuple):
+    """What one row asks. `name` is that of a command, behind it `--unchecked` where that is asked, of a question as `ask find`, or of a
+    call; and behind a colon what tells the row from others of that name. `ask` gives the words behind the command, or the ids of the
+    question, or makes the call."""
+
+    name: str
+    shapes: Tuple[str, ...]
+    ask: Callable[..., Any]
+    answer: Callable[..., Any] = None
+    given: Callable[..., Any] = None
+
+
+def hexes(shape, *numbers):
+    """The ids of commits, in digits."""
+    return [shape.plan.hex(number) for number in numbers]
+
+
+def ends(shape):
+    """The ids of the first and the last commit of the walk."""
+    return hexes(shape, shape.walk[0], shape.walk[-1])
+
+
+def below(shape):
+    """The same in the other order: an ancestor, and its descendant."""
+    return ends(shape)[::-1]
+
+
+def apart(shape):
+    """The ids of two commits of which the second does not lead to the first."""
+    return hexes(shape, *shape.apart)
+
+
+def asked_bases(shape):
+    """The ids of a commit and of others."""
+    return hexes(shape, shape.first, *shape.others)
+
+
+def tip(shape):
+    """The commit of the last position, or the last of all where there is one layer."""
+    return shape.order()[-1] if len(shape.layers) > 1 else shape.count - 1
+
+
+def last(shape):
+    """The id of the commit at the last position."""
+    return hexes(shape, shape.order()[-1])
+
+
+def path(*more):
+    """The words of a command that takes a path, and then what these functions give."""
+    return lambda shape: [shape.path, *(word for part in more for word in part(shape))]
+
+
+def yes(shape):
+    return "yes\n"
+
+
+def no(shape):
+    return "no\n"
+
+
+def none(shape):
+    return "none\n"
+
+
+def stored(shape):
+    """The commits that are asked about, in the order of their positions, as a program reads them."""
+    return shape.stream("stored", shape.order())
+
+
+def added(shape):
+    """The commits of the new layer."""
+    return shape.stream("added", shape.new)
+
+
+def highest(shape):
+    """The file of the highest layer."""
+    return shape.files[-1]
+
+
+def walked(shape):
+    """The lines of the ids on the walk."""
+    return answers.ids(shape, shape.walk)
+
+
+def bases(shape):
+    """The lines of the ids of the merge bases."""
+    return answers.ids(shape, shape.bases)
+
+
+def found(shape):
+    """The line of the last commit."""
+    return answers.found(shape, tip(shape))
+
+
+def counted(shape):
+    """The line of the number of commits."""
+    return "ok commits %d\n" % shape.count
+
+
+def last_ids(shape):
+    """The lines of the ids of the second half of all positions."""
+    return answers.ids(shape, shape.order()[shape.count // 2 :])
+
+
+def half(shape):
+    """The positions of the second half."""
+    return [str(shape.count // 2), str(shape.count)]
+
+
+def stored_half(shape):
+    """The commits at these."""
+    return shape.stream("half", shape.order()[shape.count // 2 :])
+
+
+def counted_half(shape):
+    """The line of their number."""
+    return "ok commits %d\n" % (shape.count - shape.count // 2)
+
+
+def reversed_pair(shape):
+    """The same two in the other order: no walk leads from the first to the second."""
+    return apart(shape)[::-1]
+
+
+def base(name):
+    """The name of a command, a question or a call, without what tells a row from others of that name."""
+    return name.partition(":")[0]
+
+
+COMMANDS = (
+    Row("list", UNREAD, lambda shape: [], lambda shape: answers.listed(shape, len(shape.layers) - 1), highest),
+    Row("verify", EACH, path(), answers.verified),
+    Row("distinct", UNREAD, path(), answers.verified),
+    Row("find", EACH, path(lambda shape: hexes(shape, tip(shape))), found),
+    Row("find: last", EACH, path(last), lambda shape: answers.found(shape, shape.order()[-1])),
+    Row("find: none", UNREAD, path(lambda shape: ["fe" * shape.plan.size]), none),
+    Row("ancestor", UNREAD, path(ends), answers.walk_of_positions),
+    Row("is-ancestor", UNREAD, path(below), yes),
+    Row("is-ancestor: no", UNREAD, path(apart), no),
+    Row("is-ancestor --unchecked", EACH, path(below), yes),
+    Row("is-ancestor --unchecked: no", EACH, path(apart), no),
+    Row("walk", UNREAD, path(ends), walked),
+    Row("walk: none", UNREAD, path(reversed_pair), none),
+    Row("walk --unchecked", EACH, path(ends), walked),
+    Row("merge-base", UNREAD, path(asked_bases), answers.compared),
+    Row("merge-base --unchecked", EACH, path(asked_bases), answers.compared),
+    Row("merge-base-ids", UNREAD, path(asked_bases), bases),
+    Row("merge-base-ids --unchecked", EACH, path(asked_bases), bases),
+    Row("check", UNREAD, path(), answers.checked),
+    Row("show", UNREAD, path(), lambda shape: answers.lines(answers.shown(shape))),
+    Row("ids", UNREAD, path(), lambda shape: answers.ids(shape, shape.order())),
+    Row("ids: half", UNREAD, path(half), last_ids),
+    Row("objects", UNREAD, path(), counted, stored),
+    Row("objects: half", UNREAD, path(half), counted_half, stored_half),
+    Row("write", UNREAD, lambda shape: [], lambda shape: shape.one_file(), stored),
+    Row("write: on top", UNREAD, lambda shape: [shape.below], lambda shape: shape.written, added),
+    Row("merge", UNREAD, path(), lambda shape: shape.one_file(shape.plan.filters)),
+)
+"""The commands."""
+
+QUESTIONS = (
+    Row("ask find", EACH, lambda shape: hexes(shape, tip(shape)), found),
+    Row("ask find: last", EACH, last, lambda shape: answers.found(shape, shape.order()[-1])),
+    Row("ask is-ancestor", EACH, below, yes),
+    Row("ask is-ancestor: no", UNREAD, apart, no),
+    Row("ask walk", EACH, ends, walked),
+    Row("ask walk: none", UNREAD, reversed_pair, none),
+    Row("ask merge-base", EACH, asked_bases, answers.compared),
+    Row("ask parents", EACH, lambda shape: hexes(shape, tip(shape)), lambda shape: answers.parents(shape, tip(shape))),
+    Row("ask parents: last", EACH, last, lambda shape: answers.parents(shape, shape.order()[-1])),
+    Row("ask reload", EACH, lambda shape: [], counted),
+)
+"""The questions, which are asked one after another in one run, and then all once more; checked and unchecked."""
+
+CALLS = (
+    Row("cg_version", EACH, lambda asked: (asked.library.cg_version(), asked.library.version)),
+    Row("cg_open", EACH, exports.opening("cg_open")),
+    Row("cg_open_lent", EACH, exports.opening("cg_open_lent")),
+    Row("cg_open_known", EACH, exports.open_known),
+    Row("cg_open_checked", EACH, exports.open_checked),
+    Row("cg_check", EACH, exports.check),
+    Row("cg_check_within", EACH, exports.check_within),
+    Row("cg_close", EACH, lambda asked: (asked.library.cg_close(ctypes.byref(asked.opened())), True)),
+    Row("cg_flag_new", EACH, exports.flag),
+    Row("cg_flag_raise", EACH, exports.flag),
+    Row("cg_flag_free", EACH, exports.flag),
+    Row("cg_num_commits", EACH, lambda asked: (asked.library.cg_num_commits(asked.graph), asked.shape.count)),
+    Row("cg_id_len", EACH, lambda asked: (asked.library.cg_id_len(asked.graph), asked.plan.size)),
+    Row("cg_num_layers", EACH, lambda asked: (asked.library.cg_num_layers(asked.graph), len(asked.shape.layers))),
+    Row("cg_layer", EACH, exports.layer),
+    Row("cg_layer_checksum", EACH, exports.layer_checksum),
+    Row("cg_base_id_at", EACH, exports.base_id_at),
+    Row("cg_lookup", EACH, exports.lookup),
+    Row("cg_lookup_all", EACH, exports.lookup_all),
+    Row("cg_id_at", EACH, lambda asked: exports.id_at(asked, asked.library.cg_id_at, asked.plan.ids[asked.tip])),
+    Row("cg_tree_at", EACH, lambda asked: exports.id_at(asked, asked.library.cg_tree_at, asked.plan.tree(asked.tip))),
+    Row("cg_lend_id", EACH, lambda asked: exports.lent(asked, asked.library.cg_lend_id, asked.plan.ids[asked.tip])),
+    Row("cg_lend_tree", EACH, lambda asked: exports.lent(asked, asked.library.cg_lend_tree, asked.plan.tree(asked.tip))),
+    Row("cg_ids_at", EACH, exports.ids_at),
+    Row("cg_commit_at", EACH, exports.commit_at),
+    Row("cg_generation_at", EACH, exports.generation_at),
+    Row("cg_commits", EACH, exports.commits),
+    Row("cg_parents", EACH, lambda asked: exports.parents(asked, asked.library.cg_parents)),
+    Row("cg_first_parents", EACH, lambda asked: exports.parents(asked, asked.library.cg_first_parents)),
+    Row("cg_first_parent", EACH, exports.first_parent),
+    Row("cg_parents_from", EACH, exports.parents_from),
+    Row("cg_verify", EACH, exports.verify),
+    Row("cg_verify_layer", EACH, exports.verify_layer),
+    Row("cg_ancestor_walk", EACH, exports.ancestor_walk),
+    Row("cg_ancestor_walk_within", EACH, lambda asked: exports.ancestor_walk(asked, within=True)),
+    Row("cg_is_ancestor", EACH, exports.is_ancestor),
+    Row("cg_is_ancestor_within", EACH, lambda asked: exports.is_ancestor(asked, within=True)),
+    Row("cg_are_ancestors", EACH, exports.are_ancestors),
+    Row("cg_merge_bases", EACH, exports.merge_bases),
+    Row("cg_merge_bases_within", EACH, lambda asked: exports.merge_bases(asked, within=True)),
+    Row("cg_merge_bases_of", EACH, exports.merge_bases_of),
+    Row("cg_corrected_dates", EACH, exports.corrected_dates),
+    Row("cg_probe_path", EACH, exports.probe_path),
+    Row("cg_matches", EACH, exports.matches),
+    Row("cg_write", EACH, exports.write_on),
+    Row("cg_write: all", EACH, exports.write_all),
+    Row("cg_bytes_copy", EACH, exports.write_on),
+    Row("cg_lend_bytes", EACH, exports.lend_bytes),
+    Row("cg_bytes_free", EACH, exports.write_on),
+    Row("cg_chain_line", EACH, exports.chain_line),
+)
+"""The calls of the library for C."""
