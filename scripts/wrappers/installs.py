@@ -294,8 +294,8 @@ def check_run(results, folder, words):
         answer = install(clone, *words, prefix)
         right = answer[:2] == (1, "") and "the command ld has to be" in answer.err and not os.path.lexists(os.path.join(clone.folder, "runs"))
         results.check(title + ", with no ld, nothing is proved", None if right else "it is %r" % (answer,))
-    for tool in ("ld", "objcopy", "ar"):
-        clone.put("bin/" + tool, MAKES)
+    for tool in ("bin/ld", "bin/objcopy", "bin/ar", OF_KIT + "clang"):
+        clone.put(tool, MAKES)
     clone.put("bin/python3", "#!/bin/sh\necho 'no proof' >&2\nexit 1\n")
     answer = install(clone, *words, prefix)
     right = answer[:2] == (1, "") and answer.err.endswith("no proof\n") and not os.path.lexists(prefix)
