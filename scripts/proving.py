@@ -42,6 +42,9 @@ that where a program has a loop by chance would decide on its time."""
 PROCESSORS = len(os.sched_getaffinity(0))
 MOST_JOBS = 8
 """More jobs seldom make a check faster."""
+JOBS_BESIDE_OTHERS = 2
+"""So many jobs has a check beside others: more take more processor time in all, since each module is checked in a copy of the
+process."""
 MEMORY, FURTHER = 2 * 2**30, 2**29
 """As many bytes of memory have to be there for a check with one job, and for each further job of it."""
 HALF_SPEED = ["nice", "-n", "3"]
@@ -106,8 +109,7 @@ def is_current(crate):
 
 
 def room():
-    """How many checks there are side by side, and how many jobs each has, as far as there is memory for them. Each may have all
-    processors, since the first and the last seconds of a check are those of one job."""
+    """How many checks there are side by side, and how many jobs one has that is alone, as far as there is memory for them."""
     lines_of_host = pathlib.Path("/proc/meminfo").read_text().splitlines()
     free = 1024 * next(int(line.split()[1]) for line in lines_of_host if line.startswith("MemAvailable:"))
     jobs = max(1, min(PROCESSORS, MOST_JOBS, 1 + (free - MEMORY) // FURTHER))
@@ -241,8 +243,8 @@ def chains(crates):
 
 def prove_all(crates, date):
     """Proves crates, each as soon as those that it uses are proved, and dates them. Of those that are ready the one with the
-    longest chain comes first. One that would be in time at half the speed stands aside; where there are others enough for all
-    processors, it has one job, since with more each module is checked in a copy of the process, which takes more in all."""
+    longest chain comes first, and one that is alone has all processors. One that would be in time at half the speed stands aside;
+    where there are others enough for all processors, it has one job."""
     chain, (most, jobs) = chains(crates), room()
     left, running = sorted(crates, key=lambda crate: -chain[crate]), {}
     with concurrent.futures.ThreadPoolExecutor(most) as pool:
@@ -250,10 +252,11 @@ def prove_all(crates, date):
             waited_for = {*left, *running.values()}
             longest = max(chain[crate] for crate in waited_for)
             ready = [crate for crate in left if waited_for.isdisjoint(below(crate))]
-            are_many = len(ready) + len(running) >= PROCESSORS
+            side_by_side = len(ready) + len(running)
+            beside = jobs if side_by_side == 1 else min(JOBS_BESIDE_OTHERS, jobs)
             for crate in ready[: most - len(running)]:
                 is_aside = chain[crate] + lines(crate) < longest
-                how = 1 if is_aside and are_many else jobs, HALF_SPEED if is_aside else []
+                how = 1 if is_aside and side_by_side >= PROCESSORS else beside, HALF_SPEED if is_aside else []
                 left.remove(crate)
                 running[pool.submit(prove, crate, *how, date)] = crate
             for done in concurrent.futures.wait(running, return_when=concurrent.futures.FIRST_COMPLETED).done:
