@@ -54,19 +54,19 @@ sentences() {
 }
 
 # Puts what was proved, the kit's heap and the sentences into one object, whose only names for others are those of the calls,
-# and that into an archive and a shared library.
+# and that into an archive and a shared library. It works in a folder of its own, since another run may do the same.
 merge() (
     kit=$(dirname "$(rt doc)")
-    cd "$out"
+    scratch=$(mktemp -d "$out/merging.XXXXXX")
+    trap 'rm -rf "$scratch"' EXIT
+    cd "$scratch"
     sentences | "$kit/toolchain/bin/clang" -x c -O2 -fPIC -c - -o sentences.o
-    ld -r --whole-archive libcommitgraph_c.a "$kit/c/liblibc_c.a" sentences.o -o merged.o
+    ld -r --whole-archive "$out/libcommitgraph_c.a" "$kit/c/liblibc_c.a" sentences.o -o merged.o
     objcopy --wildcard --keep-global-symbol='cg_*' merged.o
     ld -shared -soname $soname -z noexecstack -z relro -z now merged.o -o new.so
-    rm -f new.a
     ar rcD new.a merged.o
-    mv new.so libcommitgraph.so
-    mv new.a libcommitgraph.a
-    rm merged.o sentences.o
+    mv new.so "$shared"
+    mv new.a "$archive"
 )
 
 # Proves and builds what is not built yet, or older than a source.
