@@ -1,0 +1,3 @@
+pub mod HexadecimalText
+pub mod FiveCommits
+pub mod FiveContents
