@@ -321,8 +321,8 @@ bool cg_flag_free(cg_flag *flag) CG_NONNULL((1));
 typedef struct cg_limit { uint64_t visits; cg_flag flag; } cg_limit;
 
 /* Checks a graph as cg_check does, unless the limit stops the check. It visits the commits in their order, so that CG_STOPPED tells the
- * first one, at `position`, that it did not go on with. The digest of a file, which comes before its commits, is not stopped. A
- * graph whose check is stopped is closed too. */
+ * first one, at `position`, that it did not go on with: without a flag `position` is limit.visits. Nothing before it is wrong. The
+ * digest of a file, which comes before its commits, is not stopped. A graph whose check is stopped is closed too. */
 CG_NODISCARD uint32_t cg_check_within(cg_graph *graph, bool distinct_ids, cg_limit limit, struct cg_verdict *verdict,
                                       struct cg_count *counts, size_t counts_len, cg_graph *out) CG_NONNULL((1, 4, 7));
 

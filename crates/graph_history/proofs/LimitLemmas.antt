@@ -1,5 +1,5 @@
 -- Searches of a right graph in memory that a limit may stop, and checks that it may.
-use Rattle.std.proofs.Common.{◌≡◌, ◌≢◌, ◌⊎◌, ◌↔◌, ℕ, zero, suc, ◌+◌, ◌^◌, ◌-◌, ◌<◌, ◌≤◌, min, List, [], ◌∷◌, ◌++◌, length, sym}
+use Rattle.std.proofs.Common.{◌≡◌, ◌≢◌, ◌⊎◌, ◌↔◌, ℕ, zero, suc, ◌+◌, ◌^◌, ◌-◌, ◌<◌, ◌≤◌, min, List, [], ◌∷◌, ◌++◌, length, sym, inl, inr}
 use Rattle.std.proofs.Common.{ap, ◌∙◌, subst, ⊎_elim, arith, length-append, Result, Ok, Err, Bool, false, IsTrue}
 use Rattle.std.specs.Prelude.{⊤}
 use Rattle.std.specs.List.{range_with_len}
@@ -21,7 +21,7 @@ use Rattle.commit_search.specs.Cardinality.{AtMost}
 use Rattle.commit_search.specs.WalkAnswer.{IsAbove, LeadsWithin, MayLead}
 use Rattle.commit_search.specs.Source.{Told, told_of}
 use Rattle.graph_history.specs.Limits.{Bound, EndsEarly, IfSource, IsSource, IsToldWithin, MayRefuseWithin}
-use Rattle.graph_history.specs.Limits.{StopsAfter}
+use Rattle.graph_history.specs.Limits.{StopsAfter, IsStoppedAt}
 use Rattle.graph_history.specs.declared.limit.LimitError.{LimitError}
 use Rattle.graph_history.specs.declared.limit.LimitError.TheVariants as limited
 use Rattle.graph_history.specs.declared.limit.Stopped.{Stopped}
@@ -104,6 +104,11 @@ range_at k (suc n) (x ∷ before) p after same =
     let rest : range_with_len (k + 1) n ≡ before ++ p ∷ after = cc in
     let at = range_at (k + 1) n before p after rest in (omega (arith, at.0), omega (arith, at.1))
 
+-- Without a flag what is stopped has visited as many as may be visited.
+stops_full : {bound : Bound} (p : ℕ) → p ≤ bound.visits → bound.flagged ≡ false → StopsAfter bound p → p ≡ bound.visits
+stops_full p within unflagged (inl full) = omega (arith, within, full)
+stops_full p within unflagged (inr flagged) = cc
+
 -- A check by a processor that counts the commits on which it is called, and answers that it is stopped.
 module _ {F : Type 0} (step : F → ℕ → Result (Unit {0}) Stopped → F → Type 0) (value : F → ℕ) (bound_at : F → Bound)
     (more : (f : F) (p : ℕ) (g : F) → step f p (Ok tt) g
@@ -135,34 +140,43 @@ module _ {F : Type 0} (step : F → ℕ → Result (Unit {0}) Stopped → F → 
         (omega (arith, none, size, few)) (omega (arith, none)) in
         subst (λ (b : Bound). total layers ≤ b.visits) same (omega (arith, none, size, visited))
 
-  -- It stops where as many were counted as may be visited, or where there is a flag.
-  module _ (stops : (h : F) (p : ℕ) (e : Stopped) (k : F) → step h p (Err e) k → StopsAfter (bound_at h) (value h)) where
-    stopped_at : (p : ℕ) (e : Stopped) → StopsAtCall step (points_with {E = Stopped} options layers) f g p e
-        → (p < total layers) × StopsAfter bound p
-    stopped_at p e at =
-        let earlier : List ℕ = calls at.before in
-        let split : range_with_len 0 (total layers) ≡ earlier ++ p ∷ calls at.after =
-        sym all ∙ ap calls at.split ∙ calls-append at.before (call p ∷ at.after) in
-        let place = range_at 0 (total layers) earlier p (calls at.after) split in
-        let counts = counted (λ h q k. step h q (Ok tt) k) value bound_at more earlier f at.then at.accepted
-        (omega (arith, none, place.1, few)) in
-        let visits : value at.then ≡ p = omega (arith, counts.0, none, place.0) in (
-          omega (arith, place.0, place.1),
+    -- It stops where as many were counted as may be visited, or where there is a flag.
+    module _ (stops : (h : F) (p : ℕ) (e : Stopped) (k : F) → step h p (Err e) k → StopsAfter (bound_at h) (value h)) where
+      stopped_at : (p : ℕ) (e : Stopped) → StopsAtCall step (points_with {E = Stopped} options layers) f g p e
+          → IsStoppedAt bound options layers p
+      stopped_at p e at =
+          let earlier : List ℕ = calls at.before in
+          let split : range_with_len 0 (total layers) ≡ earlier ++ p ∷ calls at.after =
+          sym all ∙ ap calls at.split ∙ calls-append at.before (call p ∷ at.after) in
+          let place = range_at 0 (total layers) earlier p (calls at.after) split in
+          let counts = counted (λ h q k. step h q (Ok tt) k) value bound_at more earlier f at.then at.accepted
+          (omega (arith, none, place.1, few)) in
+          let visits : value at.then ≡ p = omega (arith, counts.0, none, place.0) in
+          let visited =
+          accepts_within earlier f at.then at.accepted (omega (arith, none, place.1, few)) (omega (arith, none)) in
+          let within : p ≤ bound.visits =
+          subst (λ (b : Bound). p ≤ b.visits) same (omega (arith, none, place.0, visited)) in
+          let after : StopsAfter bound p =
           subst (λ (n : ℕ). StopsAfter bound n) visits
-              (subst (λ (b : Bound). StopsAfter b (value at.then)) (counts.1 ∙ same) (stops at.then p e g at.answered)),
-        )
+              (subst (λ (b : Bound). StopsAfter b (value at.then)) (counts.1 ∙ same) (stops at.then p e g at.answered)) in
+          record {
+            there = omega (arith, place.0, place.1);
+            within = within;
+            full = λ unflagged. stops_full p within unflagged after;
+            right_so_far = record { before = at.before; after = at.after; split = at.split; no_fault = at.no_fault };
+          }
 
-    pub refused_within : (x : VerifyError Stopped)
-        → Agrees step (points_with {E = Stopped} options layers) f g {T = Outcome} cause_of (Err x)
-        → IsDeservedWith options layers x → MayRefuseWithin bound options layers x
-    refused_within (error.Processor pos e) agrees deserved = stopped_at pos.0 e agrees
-    refused_within error.OutOfMemory agrees deserved = tt
-    refused_within error.TooManyFiles agrees deserved = (agrees.fault, deserved)
-    refused_within (error.BaseCount i) agrees deserved = (agrees.fault, deserved)
-    refused_within (error.BaseId i j) agrees deserved = (agrees.fault, deserved)
-    refused_within (error.Layer i fault) agrees deserved = (agrees.fault, deserved)
-    refused_within (error.Commit pos fault) agrees deserved = (agrees.fault, deserved)
-    refused_within (error.Parent pos fault) agrees deserved = (agrees.fault, deserved)
-    refused_within (error.ParentOutOfRange pos parent) agrees deserved = (agrees.fault, deserved)
-    refused_within (error.Generation pos expected) agrees deserved = (agrees.fault, deserved)
-    refused_within (error.DuplicateId pos earlier) agrees deserved = (agrees.fault, deserved)
+      pub refused_within : (x : VerifyError Stopped)
+          → Agrees step (points_with {E = Stopped} options layers) f g {T = Outcome} cause_of (Err x)
+          → IsDeservedWith options layers x → MayRefuseWithin bound options layers x
+      refused_within (error.Processor pos e) agrees deserved = stopped_at pos.0 e agrees
+      refused_within error.OutOfMemory agrees deserved = tt
+      refused_within error.TooManyFiles agrees deserved = (agrees.fault, deserved)
+      refused_within (error.BaseCount i) agrees deserved = (agrees.fault, deserved)
+      refused_within (error.BaseId i j) agrees deserved = (agrees.fault, deserved)
+      refused_within (error.Layer i fault) agrees deserved = (agrees.fault, deserved)
+      refused_within (error.Commit pos fault) agrees deserved = (agrees.fault, deserved)
+      refused_within (error.Parent pos fault) agrees deserved = (agrees.fault, deserved)
+      refused_within (error.ParentOutOfRange pos parent) agrees deserved = (agrees.fault, deserved)
+      refused_within (error.Generation pos expected) agrees deserved = (agrees.fault, deserved)
+      refused_within (error.DuplicateId pos earlier) agrees deserved = (agrees.fault, deserved)

@@ -1,8 +1,8 @@
 -- When a search or a check is stopped before its end.
-use Rattle.std.specs.Prelude.{◌≡◌, ◌⊎◌, ◌+◌, ◌<◌, ◌≤◌, ℕ, List, Bool, false, Some, is_some, IsTrue, ⊤}
+use Rattle.std.specs.Prelude.{◌≡◌, ◌⊎◌, ◌+◌, ◌<◌, ◌≤◌, ◌∷◌, ◌++◌, ℕ, List, Bool, false, None, Some, is_some, IsTrue, ⊤}
 use Rattle.graph_walks.specs.History.{Node}
 use Rattle.graph_format.specs.Layer.{Layer}
-use Rattle.graph_format.specs.Points.{first_fault}
+use Rattle.graph_format.specs.Points.{Point, call, first_fault}
 use Rattle.gix_commitgraph.specs.Distinct.{IsSoundWith}
 use Rattle.gix_commitgraph.specs.Graph.{total}
 use Rattle.gix_commitgraph.specs.Verify.{points_with}
@@ -59,9 +59,24 @@ abbrev pub IsSource : {E : Type 0} → (E → Type 0) → LimitError E → Type 
 IsSource P limited.Stopped = ⊥
 IsSource P (limited.Source e) = P e
 
--- the errors of a check with these options that may be stopped: at a commit before which as many were visited as may be, or where
--- there is a flag; else the first fault, and then the graph does not keep what the options ask for; or that an allocation failed
+-- What a check does with these options before it visits the commit at a position finds no fault.
+pub record HasNoFaultBefore (options : VerifyOptions) (layers : List Layer) (pos : ℕ) : Type 0 where
+  pub before : List (Point (VerifyError Stopped))
+  pub after : List (Point (VerifyError Stopped))
+  pub split : points_with options layers ≡ before ++ call pos ∷ after
+  pub no_fault : first_fault before ≡ None
+
+-- A check is stopped at the commit at a position, having visited those before it: as many as may be visited, and fewer only where
+-- there is a flag. Nothing that comes before is wrong.
+pub record IsStoppedAt (bound : Bound) (options : VerifyOptions) (layers : List Layer) (pos : ℕ) : Type 0 where
+  pub there : pos < total layers
+  pub within : pos ≤ bound.visits
+  pub full : bound.flagged ≡ false → pos ≡ bound.visits
+  pub right_so_far : HasNoFaultBefore options layers pos
+
+-- the errors of a check with these options that may be stopped: that it was, or the first fault, and then the graph does not keep
+-- what the options ask for; or that an allocation failed
 abbrev pub MayRefuseWithin : Bound → VerifyOptions → List Layer → VerifyError Stopped → Type 0
-MayRefuseWithin bound options layers (error.Processor pos stop) = (pos.0 < total layers) × StopsAfter bound pos.0
+MayRefuseWithin bound options layers (error.Processor pos stop) = IsStoppedAt bound options layers pos.0
 MayRefuseWithin bound options layers error.OutOfMemory = ⊤
 MayRefuseWithin bound options layers x = (first_fault (points_with options layers) ≡ Some x) × (¬ IsSoundWith options layers)

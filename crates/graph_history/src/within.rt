@@ -221,7 +221,8 @@ impl CheckedGraph {
     /// # Errors
     ///
     /// Those of [`CheckedGraph::new_with`], and `Processor` at the first commit that is not to be
-    /// visited. The graph is dropped then.
+    /// visited: that after as many as the limit allows, or an earlier one where there is a flag.
+    /// Nothing that the check looks at before it is wrong. The graph is dropped then.
     pub fn new_within(
         alloc: Global,
         options: VerifyOptions,

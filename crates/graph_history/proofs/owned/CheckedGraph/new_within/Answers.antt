@@ -22,4 +22,4 @@ returns-in-Err-clause-refusal c =
     let few : total layers < 2 ^ 32 = search rules in
     refused_within _ (λ f. f.1.now) (λ f. bound_of f.0.now) (λ f p g step. search rules) (bound_of c.args.limit)
     options layers all few _ c.verify_integrity_with-found.new.processor (search rules) (search rules)
-    (λ f p e g step. search rules) c.in-Err.error c.in-Err.ensures.agrees c.in-Err.ensures.sound
+    (λ f p g step. search rules) (λ f p e g step. search rules) c.in-Err.error c.in-Err.ensures.agrees c.in-Err.ensures.sound
