@@ -309,7 +309,7 @@ static inline cg_flag cg_no_flag() { cg_flag none = { NULL, false }; return none
 CG_NODISCARD uint32_t cg_flag_new(cg_flag *out) CG_NONNULL((1));
 
 /* Raises a flag, for good: calls that look at it stop, and so do later ones. A call that has no commit to visit does not look at it,
- * and still answers. Answers whether there was one. */
+ * and still answers. Answers whether there was one. That a raised flag stops calls is tested, not proved. */
 bool cg_flag_raise(cg_flag flag);
 
 /* Frees a flag, leaves CG_NO_FLAG where it was, and answers whether there was one: false of CG_NO_FLAG, with which nothing is done. */

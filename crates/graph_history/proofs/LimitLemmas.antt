@@ -1,6 +1,7 @@
 -- Searches of a right graph in memory that a limit may stop, and checks that it may.
-use Rattle.std.proofs.Common.{◌≡◌, ◌≢◌, ◌⊎◌, ◌↔◌, ℕ, zero, suc, ◌+◌, ◌^◌, ◌-◌, ◌<◌, ◌≤◌, min, List, [], ◌∷◌, ◌++◌, length, sym, inl, inr}
-use Rattle.std.proofs.Common.{ap, ◌∙◌, subst, ⊎_elim, arith, length-append, Result, Ok, Err, Bool, false, IsTrue}
+use Rattle.std.proofs.Common.{◌≡◌, ◌≢◌, ◌⊎◌, ◌↔◌, ℕ, zero, suc, ◌+◌, ◌^◌, ◌-◌, ◌<◌, ◌≤◌, min, List, [], ◌∷◌, ◌++◌, length}
+use Rattle.std.proofs.Common.{sym, inl, inr, ap, ◌∙◌, subst, ⊎_elim, arith, length-append, Result, Ok, Err, Bool, false}
+use Rattle.std.proofs.Common.{IsTrue}
 use Rattle.std.specs.Prelude.{⊤}
 use Rattle.std.specs.List.{range_with_len}
 use Rattle.std.proofs.lemmas.List.FromFn.{length-range_with_len}
