@@ -1,23 +1,22 @@
-"""The tables of docs/REFUSALS.md, and what has to be said of a line by them."""
+"""What has to be said of a line, by the rows of tables/refusals.tsv."""
 
-import os
 import re
 import signal
 from typing import List, NamedTuple, Optional, Sequence
 
-TOP = os.path.dirname(os.path.dirname(os.path.abspath(__file__)))
+import refusal_table
+
 ANEW, FILES_ANEW = "write it anew", "write FILES anew"
 LETTER = re.compile(r"(?<![A-Za-z0-9])[A-Z](?![A-Za-z0-9])")
 VALUE = re.compile(LETTER.pattern + r"(\+1)?")
 ENDED = re.compile(r"ended by signal (\d+)")
-FROM = re.compile(r"from (`[^:]*): ")
 
 
 class Row(NamedTuple):
-    """A row: a text for lines, its section, a command that it is of, if not any, what happened and what to do."""
+    """A row: a text for lines, its table, a command that it is of, if not any, what happened and what to do."""
 
     text: str
-    section: str
+    table: str
     command: Optional[str]
     happened: str
     to_do: str
@@ -35,21 +34,9 @@ class Known(NamedTuple):
 
 
 def read_rows() -> List[Row]:
-    """The rows of all tables, one for each text in the first cell and each command that is named, in their order."""
-    with open(os.path.join(TOP, "docs", "REFUSALS.md"), encoding="utf-8") as file:
-        lines = file.read().split("\n")
-    rows, section, to_do = [], None, ""
-    for line in lines:
-        if line.startswith("## "):
-            section = line[3:]
-        elif line.startswith("| "):
-            first, happened, *more = line.strip("| ").split(" | ")
-            to_do = to_do if more[:1] == ['"'] else "".join(more[:1])
-            named = FROM.match(happened)
-            words = re.findall(r"`([^`]*)`", named.group(1)) if named else [None]
-            for text in re.findall(r"`([^`]*)`", first):
-                rows += [Row(text, section, word, FROM.sub("", happened, count=1), to_do) for word in words]
-    return rows
+    """The rows that have a line, one for each command that is named, in their order."""
+    rows = [row for row in refusal_table.read_rows() if row.line]
+    return [Row(row.line, row.table, word, row.happened, row.to_do) for row in rows for word in row.commands() or [None]]
 
 
 def values(text, line):

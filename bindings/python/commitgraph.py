@@ -39,6 +39,7 @@ INSTALLED = "libcommitgraph.so.1"
 class Code(enum.IntEnum):
     """The numbers of causes, as commitgraph.h has them."""
 
+    # scripts/refusal_table.py writes them here, of tables/refusals.tsv.
     OK = 0
     OUT_OF_MEMORY = 1
     CLOSED_GRAPH = 2

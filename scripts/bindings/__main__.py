@@ -32,9 +32,9 @@ import time
 
 sys.path.insert(0, str(pathlib.Path(__file__).resolve().parent.parent))
 
-import error_numbers
 import later
 import proving
+import refusal_table
 
 TOP = pathlib.Path(__file__).resolve().parent.parent.parent
 HERE = TOP / "scripts/bindings"
@@ -142,17 +142,15 @@ def exports(archive):
 
 
 def sentences(library):
-    """The library says of each number what its header says."""
-    loaded, header = ctypes.CDLL(str(library)), (HEADER / "commitgraph.h").read_text()
+    """The library says of each number what the table of refusals says."""
+    loaded, rows = ctypes.CDLL(str(library)), refusal_table.read_rows()
     loaded.cg_strerror.restype = loaded.cg_advice.restype = ctypes.c_char_p
-    said, anew = error_numbers.advised_in_header(header)
-    happened = dict(error_numbers.SENTENCE.findall(header.partition(error_numbers.ADVISING)[0]))
-    numbers = {name: int(number) for name, number in error_numbers.IN_HEADER.findall(header)}
-    for name, number in numbers.items():
-        advice = said.get(name, anew if numbers["OPEN_CHAIN_NOT_TEXT"] <= number < numbers["WRITE_KIND"] else "")
-        told = loaded.cg_strerror(number).decode(), loaded.cg_advice(number).decode()
-        expect(f"the library's sentences of {name}", told == (happened[name], advice), told)
-    unknown = {(loaded.cg_strerror(number), loaded.cg_advice(number)) for number in range(1000) if number not in numbers.values()}
+    codes, anew = refusal_table.codes(rows), refusal_table.anew_of(rows)
+    for row in codes:
+        told = loaded.cg_strerror(row.number).decode(), loaded.cg_advice(row.number).decode()
+        expect(f"the library's sentences of {row.name}", told == (row.said(), refusal_table.advice(row, anew)), told)
+    numbers = {row.number for row in codes}
+    unknown = {(loaded.cg_strerror(number), loaded.cg_advice(number)) for number in range(1000) if number not in numbers}
     expect("the library's sentence of numbers that are not known", unknown == {(b"a number that is not known", b"")}, unknown)
 
 

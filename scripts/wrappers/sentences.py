@@ -1,4 +1,4 @@
-"""Checks that each row of docs/REFUSALS.md is what a wrapper says of its line."""
+"""Checks that each row of tables/refusals.tsv is what a wrapper says of its line."""
 
 import os
 import tempfile

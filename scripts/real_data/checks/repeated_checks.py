@@ -120,7 +120,7 @@ def check_kind(programs, results, new):
 
 def check_hints(results, title, repository, graph):
     """Where no walk leads from a commit to another, and Git's answer is that one does, the other stands twice: that is the
-    id which docs/REFUSALS.md names beside the answer."""
+    id which tables/refusals.tsv names beside the answer."""
     pairs = permutations(sorted(set(graph.ids)), 2)
     missed = [it for it in pairs if repository.reaches(*it) and kind_of_pair(graph, *it) == NO_WALK]
     for command, line, asked in (("is-ancestor", "no", (1, 0)), ("walk", "none", (0, 1))):
