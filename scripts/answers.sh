@@ -289,7 +289,7 @@ layer_of_position() {
     '
 }
 
-# Says what `line` means and what to do, by the tables of docs/REFUSALS.md: explain FORM COMMAND PATH [ID..]. `beside` is the
+# Says what `line` means and what to do, by tables/refusals.tsv: explain FORM COMMAND PATH [ID..]. `beside` is the
 # line of another row, which has to be said too, or empty. What is known besides stands in `cause`, what happened, in place of
 # what the table has; `where`, a sentence on the file of which the line speaks; `advice`, what to do in place of what the table
 # has; `opened`, the files to be removed where a graph is written anew; `cure`, the commands by which that is done; and `note`,
@@ -300,7 +300,7 @@ explain() {
     shift 3
     NAME=$name FORM=$form LINE=$line COMMAND=$command IDS=$* COMMIT=${commit:-$(commit_at "$path")} BESIDE=$beside \
         CAUSE=$cause WHERE=$where FILE=${names_file:+$file} ADVICE=$advice OPENED=$opened CURE=$cure NOTE=$note \
-        WARNINGS=$warnings SIGNAL=$(signal_named) LC_ALL=C awk -f "$top/scripts/json.awk" -f "$top/scripts/explain.awk" "$top/docs/REFUSALS.md"
+        WARNINGS=$warnings SIGNAL=$(signal_named) LC_ALL=C awk -f "$top/scripts/json.awk" -f "$top/scripts/explain.awk" "$top/tables/refusals.tsv"
 }
 
 # The number and the name of the signal that ended a program.

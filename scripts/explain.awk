@@ -1,4 +1,4 @@
-# Says in sentences what a line of an answer means and what to do, by the tables of docs/REFUSALS.md, which it
+# Says in sentences what a line of an answer means and what to do, by the table tables/refusals.tsv, which it
 # reads, after scripts/json.awk. The surroundings give LINE, COMMAND, the word by which the program was asked, NAME, the
 # name to speak by, and, each of them empty where it is not known, IDS, the ids that were asked about, COMMIT, the id of the
 # commit at the position that the line names, BESIDE, the line of another row, which is said too: what to do is then as
@@ -8,25 +8,21 @@
 # and the name of a signal. Where FORM is `json`, the same is written as fields of a JSON object, with FILE, the path of the
 # file, and WARNINGS, what else was said, as texts of JSON with commas between them.
 #
-# A row is that of the line if a text in backquotes in its first cell has the line's words, where a capital
-# letter stands for any number, and the line may have more words at its end. Of several such rows the one with
-# the most words is taken, of those one for the command, which begins with “from `WORD`” or so with several words,
-# and of those the one with the fewest letters. In the other cells `L+1` is one more than L. A `"` is what the row above
-# says to do, and what it means to write a commit-graph anew stands in rows too.
+# A row is that of the line if its own has the same words, where a capital letter stands for any number, and the line may
+# have more words at its end. Of several such rows the one with the most words is taken, of those one that is for the
+# command, and of those the one with the fewest letters. In the sentences `L+1` is one more than L. What it means to write a
+# commit-graph anew stands in rows too.
 
 BEGIN {
+    FS = "\t"
     line = ENVIRON["LINE"]
     command = ENVIRON["COMMAND"]
     detail = detail_of(line)
     beside = ENVIRON["BESIDE"]
 }
 
-/^\| / {
-    split(substr($0, 3), cells, / *\|( |$)/)
-    if (cells[3] != "\"") to_do = cells[3]
-    spans = split(cells[1], span, "`")
-    for (at = 2; at <= spans; at += 2) look(span[at])
-}
+NR == 1 { for (at = 1; at <= NF; at++) column[$at] = at }
+NR > 1 && cell("line") != "" { look(cell("line")) }
 
 END {
     if (best[detail]) {
@@ -118,7 +114,12 @@ function detail_of(line) {
     return ""
 }
 
-# Looks whether a text of the first cell is the line, or one that is needed beside it, and keeps the row then.
+# A cell of the row that is read, by the title of its column.
+function cell(title) {
+    return $column[title]
+}
+
+# Looks whether the line of a row is the one that is told, or one that is needed beside it, and keeps the row then.
 function look(text) {
     keep(text, line)
     if (detail != "") keep(text, detail)
@@ -129,13 +130,11 @@ function look(text) {
 
 function keep(text, wanted,    score) {
     score = fit(text, wanted)
-    if (score > 0 && cells[2] ~ /^from `/) score = is_for_command(cells[2]) ? score + 50 : 0
+    if (score > 0 && cell("from") != "") score = is_for_command(cell("from")) ? score + 50 : 0
     if (score > best[wanted]) {
         best[wanted] = score
-        happened[wanted] = cells[2]
-        sub(/^from `[^`]*`[^:]*: /, "", happened[wanted])
-        happened[wanted] = quoted(happened[wanted])
-        cure[wanted] = quoted(to_do)
+        happened[wanted] = quoted(cell("what happened"))
+        cure[wanted] = quoted(cell("what to do"))
         if (wanted == line) take_values(text)
     }
 }
@@ -152,9 +151,8 @@ function fit(text, wanted,    words, parts, count, number, letters) {
 }
 
 function is_for_command(text,    parts, count, at) {
-    sub(/: .*/, "", text)
-    count = split(text, parts, "`")
-    for (at = 2; at <= count; at += 2) if (parts[at] == command) return 1
+    count = split(text, parts, " ")
+    for (at = 1; at <= count; at++) if (parts[at] == command) return 1
     return 0
 }
 

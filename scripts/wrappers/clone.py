@@ -11,6 +11,7 @@ MORE_TOOLS = ("comm", "grep", "head", "od", "sed", "sleep", "sort", "stat", "syn
 PROGRAMS = ("graphtool", "historytool")
 COPIED = (
     *("git-cgraph", "graphtool", "historytool", "VERSION", "docs/MANUAL.md", "docs/REFUSALS.md"),
+    "tables/refusals.tsv",
     *("docs/PROGRAMS.md", "scripts/programs.awk", "scripts/completions.awk"),
     *("scripts/answers.sh", "scripts/usage.sh", "scripts/repository.sh", "scripts/anew.sh", "scripts/cures.sh", "scripts/commands"),
     *("scripts/json.sh", "scripts/progress.sh", "scripts/objects.sh", "scripts/show.sh", "scripts/locks.sh", "scripts/write.sh"),

@@ -20,7 +20,7 @@ INSTALLED = {
     *("share/bash-completion/completions/git-cgraph", "lib/git-cgraph/installed", "lib/git-cgraph/VERSION"),
     *("lib/git-cgraph/git-cgraph", "lib/git-cgraph/graphtool", "lib/git-cgraph/historytool"),
     *("lib/git-cgraph/programs/graphtool", "lib/git-cgraph/programs/historytool"),
-    *("lib/git-cgraph/docs/MANUAL.md", "lib/git-cgraph/docs/REFUSALS.md"),
+    *("lib/git-cgraph/docs/MANUAL.md", "lib/git-cgraph/tables/refusals.tsv"),
     *("lib/git-cgraph/scripts/answers.sh", "lib/git-cgraph/scripts/usage.sh", "lib/git-cgraph/scripts/commands"),
     *("lib/git-cgraph/scripts/explain.awk", "lib/git-cgraph/scripts/manual.awk", "lib/git-cgraph/scripts/alternates.awk"),
     *("lib/git-cgraph/scripts/repository.sh", "lib/git-cgraph/scripts/anew.sh", "lib/git-cgraph/scripts/cures.sh"),
@@ -29,6 +29,7 @@ INSTALLED = {
     *("lib/git-cgraph/scripts/guard.sh", "lib/git-cgraph/scripts/question.sh"),
     *("lib/git-cgraph/scripts/json.sh", "lib/git-cgraph/scripts/json.awk", "lib/git-cgraph/scripts/fields", "lib/git-cgraph/scripts/fields.awk"),
     *("share/doc/git-cgraph/LICENSE-MIT", "share/doc/git-cgraph/LICENSE-APACHE", "share/doc/git-cgraph/DIFFERENCES.md"),
+    "share/doc/git-cgraph/REFUSALS.md",
 }
 OF_LIBRARY = {
     *("include/commitgraph.h", "include/commitgraph_path.h", "lib/libcommitgraph.a", "lib/libcommitgraph.so", "lib/libcommitgraph.so.1"),

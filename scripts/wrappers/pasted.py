@@ -509,7 +509,7 @@ SOURCES = ("git-cgraph", *("scripts/%s.sh" % name for name in ("anew", "cures", 
 PRINTS = re.compile(r"""cure=(?!'')|["'+}] {4}(rm|ls|df|%s|\$)""")
 READS = {"git rev-parse NAME", "git cat-file --batch", "git fsck", "git rev-list --all", "git commit-graph verify"}
 NO_COMMANDS = {"git --no-replace-objects", "git replace", "git commit-graph write"}
-"""Words of Git in docs/REFUSALS.md that change nothing, and those that are named and not told to be run."""
+"""Words of Git in tables/refusals.tsv that change nothing, and those that are named and not told to be run."""
 
 
 def check_all(results):
@@ -553,7 +553,7 @@ def check_places(results):
 
 
 def commands_of_tables():
-    """The commands of Git that stand in the tables of docs/REFUSALS.md."""
+    """The commands of Git that stand in tables/refusals.tsv."""
     rows = refusals.read_rows()
     return {command for row in rows for text in (row.happened, row.to_do) for command in re.findall(r"`(git [^`]*)`", text)}
 
