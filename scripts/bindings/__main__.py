@@ -32,6 +32,7 @@ import time
 
 sys.path.insert(0, str(pathlib.Path(__file__).resolve().parent.parent))
 
+import declarations
 import later
 import proving
 import refusal_table
@@ -54,8 +55,6 @@ IN_HEADER = {"cg_strerror", "cg_advice", "cg_closed", "cg_no_bytes", "cg_no_flag
 """Functions that the header has whole."""
 SENTENCES = ("cg_strerror", "cg_advice")
 """Those of them that the library has too."""
-DECLARED = re.compile(r"^(?:CG_NODISCARD )?[\w ]+ (cg_\w+)\(([^;]*?)\)(?: CG_NONNULL\(\(.*\)\))?;$", re.MULTILINE | re.DOTALL)
-"""A call that the header declares, and what it takes."""
 MAY_BE_IGNORED = {
     *("cg_close", "cg_flag_raise", "cg_flag_free", "cg_bytes_free", "cg_bytes_copy", "cg_verify", "cg_verify_layer", "cg_layer"),
     *("cg_layer_checksum", "cg_base_id_at", "cg_lookup_all", "cg_id_at", "cg_tree_at", "cg_lend_id", "cg_lend_tree", "cg_lend_bytes"),
@@ -157,7 +156,7 @@ def sentences(library):
 def warned_of(compiler, scratch):
     """Where the answer of a call is ignored, or a pointer is NULL that may not be, the compiler warns, and nowhere else."""
     lines, wanted = ['#include "commitgraph.h"'], {"unused-result": set(), "nonnull": set()}
-    for call, taken in DECLARED.findall((HEADER / "commitgraph.h").read_text()):
+    for _, call, taken in declarations.CALL.findall((HEADER / "commitgraph.h").read_text()):
         taken = [" ".join(one.split()) for one in taken.split(",")]
         names = [re.search(r"\w+$", one).group() if one != "void" else "" for one in taken]
         tried = [(number, one) for number, one in enumerate(taken) if "*" in one]
@@ -359,7 +358,10 @@ def layers_of(where):
 
 def fields(name, compiler, archive, scratch):
     """What calls write into each field of each struct, read by the layout of the header."""
-    program, file = scratch / compiler / "layout", scratch / compiler / "changed"
+    program, file, source = (scratch / compiler / part for part in ("layout", "changed", "asserted.c"))
+    source.write_text(declarations.assertions((HEADER / "commitgraph.h").read_text()))
+    done = run(compiler, "-std=c11", *STRICT, f"-I{HEADER}", "-c", source, "-o", os.devnull)
+    expect(f"{name}: each struct lies in memory as in Rust and Python", done.returncode == 0, done.stderr)
     done = run(compiler, "-std=c11", "-O1", *STRICT, f"-I{HEADER}", HERE / "layout.c", archive, "-o", program)
     expect(f"{name}: layout.c", done.returncode == 0, done.stderr)
     graph = scratch / "sha1/.git/objects/info/commit-graph"

@@ -1,52 +1,8 @@
-/* layout FILE..: where each field of each struct stands, and what calls write into each, on the layers of these files, which are
- * opened without paths. scripts/bindings compares it with what Git says. The structs have other bytes in them before each call. */
+/* layout FILE..: what calls write into each field of each struct, on the layers of these files, which are opened without paths.
+ * scripts/bindings compares it with what Git says. The structs have other bytes in them before each call. */
 #include "commitgraph.h"
 #include "lines.h"
 #include <string.h>
-
-#define SIZE(name, size) _Static_assert(sizeof(name) == (size), #name)
-#define AT(name, field, place) _Static_assert(offsetof(name, field) == (place), #name "." #field)
-SIZE(cg_graph, 16); AT(cg_graph, address, 0); AT(cg_graph, opened, 8);
-SIZE(cg_file, 32); AT(cg_file, bytes, 0); AT(cg_file, len, 8); AT(cg_file, path, 16); AT(cg_file, path_len, 24);
-SIZE(cg_error, 16); AT(cg_error, code, 0); AT(cg_error, layer, 8);
-SIZE(cg_known, 40); AT(cg_known, path, 0); AT(cg_known, path_len, 8); AT(cg_known, bytes, 16); AT(cg_known, len, 24);
-AT(cg_known, kind, 32);
-SIZE(cg_path_error, 24); AT(cg_path_error, code, 0); AT(cg_path_error, layer, 8); AT(cg_path_error, length, 16);
-SIZE(cg_layer_info, 16); AT(cg_layer_info, first, 0); AT(cg_layer_info, num_commits, 4); AT(cg_layer_info, bases, 8);
-AT(cg_layer_info, hash, 12);
-SIZE(cg_lent, 16); AT(cg_lent, bytes, 0); AT(cg_lent, len, 8);
-SIZE(cg_layer_verdict, 28); AT(cg_layer_verdict, code, 0); AT(cg_layer_verdict, num_commits, 4);
-AT(cg_layer_verdict, min_generation, 8); AT(cg_layer_verdict, max_generation, 12); AT(cg_layer_verdict, max_parents, 16);
-AT(cg_layer_verdict, position, 20); AT(cg_layer_verdict, byte, 24);
-SIZE(cg_commit, 16); AT(cg_commit, time, 0); AT(cg_commit, generation, 8);
-SIZE(cg_parent_count, 16); AT(cg_parent_count, code, 0); AT(cg_parent_count, count, 8);
-SIZE(cg_parent, 8); AT(cg_parent, code, 0); AT(cg_parent, position, 4);
-SIZE(cg_block, 16); AT(cg_block, commits, 0); AT(cg_block, length, 8);
-SIZE(cg_verdict, 56); AT(cg_verdict, code, 0); AT(cg_verdict, num_commits, 4); AT(cg_verdict, longest, 8);
-AT(cg_verdict, has_longest, 12); AT(cg_verdict, position, 16); AT(cg_verdict, other, 20); AT(cg_verdict, called, 24);
- AT(cg_verdict, layer, 32); AT(cg_verdict, index, 40); AT(cg_verdict, kinds, 48);
-SIZE(cg_count, 8); AT(cg_count, parents, 0); AT(cg_count, commits, 4);
-SIZE(cg_reached, 16); AT(cg_reached, code, 0); AT(cg_reached, visits, 4); AT(cg_reached, length, 8);
-SIZE(cg_leads, 8); AT(cg_leads, code, 0); AT(cg_leads, found, 4);
-SIZE(cg_pair, 8); AT(cg_pair, ancestor, 0); AT(cg_pair, descendant, 4);
-SIZE(cg_answered, 16); AT(cg_answered, code, 0); AT(cg_answered, answered, 8);
-SIZE(cg_probed, 32); AT(cg_probed, code, 0); AT(cg_probed, position, 4); AT(cg_probed, number, 8); AT(cg_probed, layer, 16);
-AT(cg_probed, answered, 24);
-SIZE(cg_dates, 32); AT(cg_dates, code, 0); AT(cg_dates, position, 4); AT(cg_dates, layer, 8); AT(cg_dates, expected, 16);
-AT(cg_dates, length, 24);
-SIZE(cg_bases, 32); AT(cg_bases, code, 0); AT(cg_bases, ahead, 4); AT(cg_bases, behind, 8); AT(cg_bases, visits, 16);
-AT(cg_bases, length, 24);
-SIZE(cg_matched, 16); AT(cg_matched, code, 0); AT(cg_matched, parent, 8);
-SIZE(cg_two, 8); AT(cg_two, first, 0); AT(cg_two, other, 4);
-SIZE(cg_compared, 24); AT(cg_compared, code, 0); AT(cg_compared, answered, 8); AT(cg_compared, length, 16);
-SIZE(cg_new_commit, 56); AT(cg_new_commit, id, 0); AT(cg_new_commit, id_len, 8); AT(cg_new_commit, tree, 16);
-AT(cg_new_commit, tree_len, 24); AT(cg_new_commit, parents, 32); AT(cg_new_commit, parents_len, 40); AT(cg_new_commit, time, 48);
-SIZE(cg_bytes, 16); AT(cg_bytes, address, 0); AT(cg_bytes, kept, 8);
-SIZE(cg_flag, 16); AT(cg_flag, address, 0); AT(cg_flag, kept, 8);
-SIZE(cg_limit, 24); AT(cg_limit, visits, 0); AT(cg_limit, flag, 8);
-SIZE(cg_write_error, 40); AT(cg_write_error, code, 0); AT(cg_write_error, position, 4); AT(cg_write_error, commit, 8);
-AT(cg_write_error, other, 16); AT(cg_write_error, layer, 24); AT(cg_write_error, expected, 32);
-SIZE(cg_line, 24); AT(cg_line, found, 0); AT(cg_line, end, 8); AT(cg_line, next, 16);
 
 enum { LAYERS = 8, BYTES = 1 << 16, ROOM = 64, OTHER = 0xaa };
 
