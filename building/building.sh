@@ -1,10 +1,10 @@
-# Proves and builds programs and the library for C: sourced by scripts/program, scripts/library and scripts/install, with
+# Proves and builds programs and the library for C: sourced by building/program, building/library and building/install, with
 # the clone's folder in `top`.
 #
 #     build graphtool historytool commitgraph_c
 #
 # proves in one run what is older than a source, since they share crates, and one run keeps all processors busy. The name
-# commitgraph_c is that of the library. scripts/proving.py says each crate that it proved. All output goes to standard
+# commitgraph_c is that of the library. building/proving.py says each crate that it proved. All output goes to standard
 # error. Where something fails, the script ends with status 1.
 
 out=$top/crates/commitgraph_c/out
@@ -82,7 +82,7 @@ build() {
     [ $merges = no ] || need rt ld objcopy ar
     if [ -n "$old" ]; then
         echo "${old# }: proving and building; the first time takes some minutes" >&2
-        python3 "$top/scripts/proving.py" $old >&2
+        python3 "$top/building/proving.py" $old >&2
     fi
     [ $merges = no ] || merge >&2
 }

@@ -1,8 +1,8 @@
 # Makes the completion of `git cgraph` for a shell, of the table of commands and the options in the manual:
 #
-#     awk -v shell=bash -f scripts/completions.awk scripts/commands docs/MANUAL.md >git-cgraph
-#     awk -v shell=zsh  -f scripts/completions.awk scripts/commands docs/MANUAL.md >_git-cgraph
-#     awk -v shell=fish -f scripts/completions.awk scripts/commands docs/MANUAL.md >git-cgraph.fish
+#     awk -v shell=bash -f building/completions.awk tables/commands docs/MANUAL.md >git-cgraph
+#     awk -v shell=zsh  -f building/completions.awk tables/commands docs/MANUAL.md >_git-cgraph
+#     awk -v shell=fish -f building/completions.awk tables/commands docs/MANUAL.md >git-cgraph.fish
 #
 # bash reads the first with `source`, after Git's own completion, which finds it also in share/bash-completion/completions. The
 # second belongs into a folder of zsh's `fpath`, and the third into one of `fish_complete_path`.

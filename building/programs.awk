@@ -1,5 +1,5 @@
-# Makes the text on one program, in the form that scripts/manual.awk reads, of the table of commands and of docs/PROGRAMS.md:
-# awk -v program=graphtool -f scripts/programs.awk scripts/commands docs/PROGRAMS.md
+# Makes the text on one program, in the form that shell/manual.awk reads, of the table of commands and of docs/PROGRAMS.md:
+# awk -v program=graphtool -f building/programs.awk tables/commands docs/PROGRAMS.md
 #
 # The document says in its first items what each program is. The part “What they read” is kept, but for paragraphs that begin
 # with a command of the other program. Of “What they print” the items are taken that begin with commands of this program, and

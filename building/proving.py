@@ -1,4 +1,4 @@
-"""Proves crates, and builds programs and a library from them, all in one run: `python3 scripts/proving.py NAME..`.
+"""Proves crates, and builds programs and a library from them, all in one run: `python3 building/proving.py NAME..`.
 
 The crates that a NAME uses are proved first, those side by side that do not use one another. Of a library it keeps
 what its contracts say, and not their proofs, since the crates above read no more than that. So it takes less time than

@@ -1,10 +1,10 @@
-"""Which test calls each public function of the port, by the table scripts/called.txt, which says what its rows have."""
+"""Which test calls each public function of the port, by the table gate/called.txt, which says what its rows have."""
 
 import re
 
 import surface
 
-TABLE = "scripts/called.txt"
+TABLE = "gate/called.txt"
 COMMENT = re.compile(r"//.*")
 ASSOCIATED = {"ObjectId::null", "at", "from_bytes", "from_hex", "from_raw", "new", "new_with", "shortest", "try_from_bytes"}
 """Functions without a value before them, whose call names the type. So does that of the openers."""
@@ -19,7 +19,7 @@ def wrong_rows(texts):
     for row in rows:
         if tuple(row[:2]) not in functions or named.count(tuple(row[:2])) > 1:
             yield "%s of %s is no function, or has two rows" % (row[1], row[0])
-        elif not (is_in_script if row[2].startswith("scripts/") else is_in_test)(texts, *row[1:]):
+        elif not (is_in_script if "/" in row[2] else is_in_test)(texts, *row[1:]):
             yield "%s: '%s' does not call it" % (row[1], " ".join(row[2:]))
 
 

@@ -1,4 +1,4 @@
-"""What bindings/c/commitgraph.h declares, and what is made of it: `python3 scripts/declarations.py --write` writes the structs and
+"""What bindings/c/commitgraph.h declares, and what is made of it: `python3 gate/declarations.py --write` writes the structs and
 calls of bindings/rust/src/sys.rs and of bindings/python/commitgraph.py anew, and without a word it says which are not those of the
 header. The library is for 64 bits, and so are the sizes.
 """
@@ -125,7 +125,7 @@ def assertions(text):
 
 # Rust.
 
-IN_RUST = re.compile(r"(?<=\n// What follows is made of `commitgraph\.h` by `scripts/declarations\.py`\.\n).*", re.DOTALL)
+IN_RUST = re.compile(r"(?<=\n// What follows is made of `commitgraph\.h` by `gate/declarations\.py`\.\n).*", re.DOTALL)
 RUST_KINDS = {"bool": "bool", "char": "u8", "uint8_t": "u8", "uint32_t": "u32", "uint64_t": "u64", "size_t": "usize", "void": "c_void"}
 WIDEST = 120
 """The columns that `rustfmt` takes, by bindings/rust/rustfmt.toml."""
@@ -200,7 +200,7 @@ def layout_in_rust(structs):
 # Python.
 
 IN_PYTHON = re.compile(
-    r"(?<=\n# scripts/declarations\.py makes these structs and calls of commitgraph\.h\.\n).*?(?=\"\"\"What each call that is used here)",
+    r"(?<=\n# gate/declarations\.py makes these structs and calls of commitgraph\.h\.\n).*?(?=\"\"\"What each call that is used here)",
     re.DOTALL,
 )
 PYTHON_KINDS = {"bool": "c_bool", "uint8_t": "c_uint8", "uint32_t": "c_uint32", "uint64_t": "c_uint64", "size_t": "c_size_t"}
@@ -265,7 +265,7 @@ def stale(texts):
 def main(words):
     """Writes what the header makes, or says what is not that, and answers the exit status."""
     if words not in ([], ["--write"]):
-        print("usage: scripts/declarations.py [--write]", file=sys.stderr)
+        print("usage: gate/declarations.py [--write]", file=sys.stderr)
         return 2
     texts = {}
     for path in [HEADER, *MADE]:

@@ -8,14 +8,15 @@ import os
 import re
 
 import laws
+import rooms
 
 QUOTED = re.compile(r"`([^`\n]+)`")
-PATH = re.compile(r"(crates|docs|scripts|bench|src|specs|proofs|must-fail)/\S*|[\w.*/-]+\.(rt|antt|md|py)")
+PATH = re.compile(r"(crates|docs|shell|tables|building|gate|suites|bench|src|specs|proofs|must-fail)/\S*|[\w.*/-]+\.(rt|antt|md|py)")
 ANY_NAME = re.compile(r"\b[A-Z]+\b")
 """A name in capitals within a path, as in crates/NAME/src, stands for any name."""
 
 MODULES = (".py", ".rs")
-FOUND_BY_NAME = re.compile(r"scripts/real_data/checks/\w+_checks\.py")
+FOUND_BY_NAME = re.compile(r"suites/real_data/checks/\w+_checks\.py")
 """Modules that another one finds by what stands in their folder."""
 
 KNOWN_TO_GIT = (".gitignore",)
@@ -62,8 +63,10 @@ def missing_paths(texts):
 
 
 def unnamed_files(texts):
-    """The files outside of the crates that no other of these names: a module by its name alone, and a command by its path."""
-    ours = {path: text for path, text in texts.items() if not path.startswith("crates/")}
+    """The files outside of the crates that no other of these names, lists of all files aside: a module by its name alone, and a
+    command by its path.
+    """
+    ours = {path: text for path, text in texts.items() if not path.startswith("crates/") and not rooms.README.fullmatch(path)}
     for path in filter(lambda path: not FOUND_BY_NAME.fullmatch(path), ours):
         stem, ending = os.path.splitext(os.path.basename(path))
         name = path if not ending else stem if ending in MODULES else stem + ending
@@ -75,7 +78,7 @@ def unnamed_files(texts):
 def missing_commands(texts):
     """The commands of the table of commands, with their operands and what they do, that no row of docs/PROGRAMS.md has."""
     rows = texts["docs/PROGRAMS.md"].split("\n")
-    for line in filter(lambda line: line and not line.startswith("#"), texts["scripts/commands"].split("\n")):
+    for line in filter(lambda line: line and not line.startswith("#"), texts["tables/commands"].split("\n")):
         word, program, reads, ids, _, about = line.split(None, 5)
         more = " [FROM TO]" if ids == "range" else " HEX" * int(ids[0]) + ".." * ids.endswith("+")
         if "| `%s %s%s%s` | %s |" % (program, word, OPERANDS[reads], more, about) not in rows:

@@ -1,8 +1,8 @@
 #!/usr/bin/env python3
-"""Draws the pictures of the documents: scripts/pictures.py
+"""Draws the pictures of the documents: gate/pictures.py
 
 docs/crates.svg has the crates of crates.txt by floor, and docs/measured.svg bars of the tables in docs/MEASURED.md. Both are
-made by this script alone, and scripts/check_texts fails where they are not what it makes.
+made by this script alone, and gate/check_texts fails where they are not what it makes.
 """
 
 import os
@@ -148,7 +148,7 @@ def stale(texts):
 
 def svg(width, height, title, source, lines):
     """A picture on a page of its own, so that it can be read wherever it stands."""
-    yield "<!-- Made by scripts/pictures.py of %s: change that, and run the script. -->" % source
+    yield "<!-- Made by gate/pictures.py of %s: change that, and run the script. -->" % source
     yield '<svg xmlns="http://www.w3.org/2000/svg" viewBox="0 0 %d %d" width="%d" height="%d" role="img">' % (2 * (width, height))
     yield "<title>%s</title>" % title
     yield "<style>%s</style>" % STYLE

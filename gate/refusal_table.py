@@ -1,4 +1,4 @@
-"""The table of refusals, tables/refusals.tsv, and the texts that are made of it: `python3 scripts/refusal_table.py --write` writes
+"""The table of refusals, tables/refusals.tsv, and the texts that are made of it: `python3 gate/refusal_table.py --write` writes
 these anew, and without a word it says which are not what the table makes. tables/README.md says what the columns are.
 """
 
@@ -331,7 +331,7 @@ def wrong_codes(texts):
             yield "%s has %s for %s, and the definitions %s" % (TABLE, own.get(error), error, defined.get(error))
 
 
-READING = "scripts/real_data/expected/reading.py"
+READING = "suites/real_data/expected/reading.py"
 CONDITION = re.compile(r'^    +refuse\("((?:5 chunk )?\d+)"', re.MULTILINE)
 NOT_READ = {"refused file 20"}
 """The line of memory, for which the slow reading has no condition."""
@@ -369,7 +369,7 @@ def wrong_in_rust(texts):
 def main(words):
     """Writes what the table makes, or says what is not that, and answers the exit status."""
     if words not in ([], ["--write"]):
-        print("usage: scripts/refusal_table.py [--write]", file=sys.stderr)
+        print("usage: gate/refusal_table.py [--write]", file=sys.stderr)
         return 2
     texts = {}
     for path in [TABLE, *MADE]:

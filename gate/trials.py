@@ -1,6 +1,6 @@
-"""When the edits of each crate were last tried: by the notes in scripts/edits.tried, and by the later runs in this tree.
+"""When the edits of each crate were last tried: by the notes in gate/edits.tried, and by the later runs in this tree.
 
-A run writes into `out`, which no commit has, and `scripts/edits --note` takes what it wrote into the notes.
+A run writes into `out`, which no commit has, and `gate/edits --note` takes what it wrote into the notes.
 """
 
 import datetime
@@ -13,11 +13,11 @@ from typing import List, NamedTuple
 import entries
 from documents import lower_crates
 
-NOTES, RUNS = os.path.join("scripts", "edits.tried"), os.path.join("out", "edits.tried")
+NOTES, RUNS = os.path.join("gate", "edits.tried"), os.path.join("out", "edits.tried")
 HEAD = """\
-# When scripts/edits last tried the edits and right bodies of each crate, on which commit, how many passed and failed, and
+# When gate/edits last tried the edits and right bodies of each crate, on which commit, how many passed and failed, and
 # digests of the crate's texts and of those of the crates below it. Names at the end of a line are edits that are left, as
-# the run was cut off. scripts/edits --note writes this, from what the runs since found; scripts/edits --when reads both.
+# the run was cut off. gate/edits --note writes this, from what the runs since found; gate/edits --when reads both.
 """
 READ = ("src", "specs", "proofs")
 """The folders that a check of a crate above reads."""

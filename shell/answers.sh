@@ -15,7 +15,7 @@ program_path() {
     if [ -x "$top/programs/$1" ]; then
         printf '%s\n' "$top/programs/$1"
     else
-        "$top/scripts/program" "$1" </dev/null
+        "$top/building/program" "$1" </dev/null
     fi
 }
 
@@ -300,7 +300,7 @@ explain() {
     shift 3
     NAME=$name FORM=$form LINE=$line COMMAND=$command IDS=$* COMMIT=${commit:-$(commit_at "$path")} BESIDE=$beside \
         CAUSE=$cause WHERE=$where FILE=${names_file:+$file} ADVICE=$advice OPENED=$opened CURE=$cure NOTE=$note \
-        WARNINGS=$warnings SIGNAL=$(signal_named) LC_ALL=C awk -f "$top/scripts/json.awk" -f "$top/scripts/explain.awk" "$top/tables/refusals.tsv"
+        WARNINGS=$warnings SIGNAL=$(signal_named) LC_ALL=C awk -f "$top/shell/json.awk" -f "$top/shell/explain.awk" "$top/tables/refusals.tsv"
 }
 
 # The number and the name of the signal that ended a program.

@@ -1,5 +1,5 @@
 # Says in sentences what a line of an answer means and what to do, by the table tables/refusals.tsv, which it
-# reads, after scripts/json.awk. The surroundings give LINE, COMMAND, the word by which the program was asked, NAME, the
+# reads, after shell/json.awk. The surroundings give LINE, COMMAND, the word by which the program was asked, NAME, the
 # name to speak by, and, each of them empty where it is not known, IDS, the ids that were asked about, COMMIT, the id of the
 # commit at the position that the line names, BESIDE, the line of another row, which is said too: what to do is then as
 # that row has it; CAUSE, what happened in the place of what the row has; WHERE, a sentence on the file of which the line

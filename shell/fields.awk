@@ -1,9 +1,9 @@
 # Makes the fields of a JSON object of the lines by which a command answers, for `git cgraph --json`:
 #
-#     FIELDS=scripts/fields awk -v of=verify -f scripts/json.awk -f scripts/fields.awk
+#     FIELDS=tables/fields awk -v of=verify -f shell/json.awk -f shell/fields.awk
 #
-# `of` is the command, and the lines are those of docs/PROGRAMS.md. The table scripts/fields, whose path the surroundings have
-# as FIELDS, says what they become. The lines of `show` are the ones that scripts/show.sh makes of them, with paths that are
+# `of` is the command, and the lines are those of docs/PROGRAMS.md. The table tables/fields, whose path the surroundings have
+# as FIELDS, says what they become. The lines of `show` are the ones that shell/show.sh makes of them, with paths that are
 # texts of JSON already. Those of `list` become whole objects: `before` is how many commits the layers below have, and
 # `layer` is the number of this one. `-v of=text` makes a text of JSON of the variable TEXT of the surroundings. Every number
 # and every id is one that stands in a line, but the position of a commit in a listing, which counts over all layers here.

@@ -10,9 +10,9 @@ wait_for_question() {
     for signal in HUP INT QUIT PIPE TERM; do trap "end_question $signal" $signal; done
     # A command in the background would read nothing from standard input but for these words.
     if (exec 3<&0) 2>/dev/null; then
-        (. "$top/scripts/question.sh") <&3 3<&- &
+        (. "$top/shell/question.sh") <&3 3<&- &
     else
-        (exec <&- && . "$top/scripts/question.sh") &
+        (exec <&- && . "$top/shell/question.sh") &
     fi
     answering=$!
     # What a shell says of a child that a signal ended is not for whoever sent it.

@@ -1,4 +1,4 @@
-# Texts as JSON has them, for scripts/fields.awk and scripts/explain.awk, which are read after this. It defines functions.
+# Texts as JSON has them, for shell/fields.awk and shell/explain.awk, which are read after this. It defines functions.
 # All bytes are counted, and none is taken for a part of a letter, as LC_ALL=C has it.
 
 BEGIN {

@@ -1,4 +1,4 @@
-# How `git cgraph --json` answers: by objects, one a line, that scripts/fields.awk and scripts/explain.awk make of the lines of
+# How `git cgraph --json` answers: by objects, one a line, that shell/fields.awk and shell/explain.awk make of the lines of
 # the programs and of what is known of a refusal. It reads this file with `.`, after repository.sh. This defines functions, and
 # runs nothing.
 #
@@ -8,8 +8,8 @@
 
 # Fields of an object, or objects, of the lines of a command.
 fields_of() {
-    FIELDS=$top/scripts/fields LC_ALL=C awk -v of="$1" -v before="${listed:-0}" -v layer="${number:-0}" \
-        -f "$top/scripts/json.awk" -f "$top/scripts/fields.awk"
+    FIELDS=$top/tables/fields LC_ALL=C awk -v of="$1" -v before="${listed:-0}" -v layer="${number:-0}" \
+        -f "$top/shell/json.awk" -f "$top/shell/fields.awk"
 }
 
 # A text as JSON.

@@ -1,4 +1,4 @@
-# Makes texts of docs/MANUAL.md: awk -v mode=usage|help|page [-v word=COMMAND] -f scripts/manual.awk docs/MANUAL.md
+# Makes texts of docs/MANUAL.md: awk -v mode=usage|help|page [-v word=COMMAND] -f shell/manual.awk docs/MANUAL.md
 #
 # `usage` is the synopsis, `help` the whole as plain text, or with a word the part on that command and its options, and
 # `page` the manual page, in which -v version=TEXT stands at the foot. The document has headings,

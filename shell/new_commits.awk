@@ -1,6 +1,6 @@
 # Of the newest commits, writes the ids of those that do not stand in a commit-graph, and ends with status 3 where there are more:
 #
-#     awk -f scripts/new_commits.awk part=tips TIPS part=newest NEWEST part=stored STORED
+#     awk -f shell/new_commits.awk part=tips TIPS part=newest NEWEST part=stored STORED
 #
 # TIPS has the ids of the commits to which references lead, NEWEST some commits that they reach, each with its parents behind
 # it, and STORED those of all these ids that stand in the commit-graph, which has the ancestors of its commits too. The new ones

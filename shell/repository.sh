@@ -82,7 +82,7 @@ look_for_folders() {
     folders=$(quoted "${named:-$objects}")
     [ -n "${GIT_ALTERNATE_OBJECT_DIRECTORIES-}" ] || [ -s "$objects/info/alternates" ] || return 0
     [ -z "$named" ] || folders="$folders $(quoted "$objects")"
-    folders=$folders$(git count-objects -v 2>/dev/null | LC_ALL=C awk -f "$top/scripts/alternates.awk")
+    folders=$folders$(git count-objects -v 2>/dev/null | LC_ALL=C awk -f "$top/shell/alternates.awk")
 }
 
 # Sets `home`, `folder` and `kind` to the first object folder that has a commit-graph, and to the first of all where none

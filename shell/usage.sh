@@ -1,4 +1,4 @@
-# The words that `git cgraph`, `graphtool` and `historytool` take, by the table scripts/commands. They read this file with
+# The words that `git cgraph`, `graphtool` and `historytool` take, by the table tables/commands. They read this file with
 # `.`, with `top` set to the folder in which they stand and `name` to what they call themselves. It defines functions, and
 # runs nothing.
 
@@ -15,7 +15,7 @@ look_up() {
         '#'*) ;;
         "$1") return 0 ;;
         esac
-    done <"$top/scripts/commands"
+    done <"$top/tables/commands"
     return 1
 }
 
@@ -75,7 +75,7 @@ usage() {
             if ($4 == "range") printf " [FROM TO]"
         }
         END { print name == "historytool" ? " | --help | --version" : "" }
-    ' "$top/scripts/commands"
+    ' "$top/tables/commands"
 }
 
 # What the program `name` takes and does.
@@ -94,7 +94,7 @@ END
     awk -v name="$name" '
         /^#/ || $2 != name { next }
         { word = $1; for (field = 1; field <= 5; field++) sub(/^[^ ]+ +/, ""); printf "%-14s  %s\n", word, $0 }
-    ' "$top/scripts/commands"
+    ' "$top/tables/commands"
     cat <<'END'
 
 The exit status is 0 where the graph is right, where something was found or

@@ -216,7 +216,7 @@ pick_new() {
         in_place "$historytool" ids "$graph" $from $((from + commits)) | LC_ALL=C comm -12 "$scratch/asked" -
         from=$((from + commits))
     done >"$scratch/stored"
-    LC_ALL=C awk -f "$top/scripts/new_commits.awk" \
+    LC_ALL=C awk -f "$top/shell/new_commits.awk" \
         part=tips "$scratch/tips" part=newest "$scratch/newest" part=stored "$scratch/stored" >"$scratch/new-ids"
 }
 

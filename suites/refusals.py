@@ -23,7 +23,7 @@ class Row(NamedTuple):
 
 
 class Known(NamedTuple):
-    """What is known of a commit-graph that was refused, as scripts/answers.sh has it."""
+    """What is known of a commit-graph that was refused, as shell/answers.sh has it."""
 
     where: str = ""
     advice: str = ""

@@ -13,7 +13,7 @@ Threads may share a graph: any number of them may ask it at a time, and a call t
 thread closes the graph. A graph is not copied or pickled.
 
 It calls libcommitgraph.so.1, which is looked for in the folder that COMMITGRAPH_LIB names; where that is not set, in this clone, where
-`scripts/library` makes it, and then where the system looks. The calls are proved, this module is not: test_commitgraph.py tests it.
+`building/library` makes it, and then where the system looks. The calls are proved, this module is not: test_commitgraph.py tests it.
 """
 
 import ctypes
@@ -39,7 +39,7 @@ INSTALLED = "libcommitgraph.so.1"
 class Code(enum.IntEnum):
     """The numbers of causes, as commitgraph.h has them."""
 
-    # scripts/refusal_table.py writes them here, of tables/refusals.tsv.
+    # gate/refusal_table.py writes them here, of tables/refusals.tsv.
     OK = 0
     OUT_OF_MEMORY = 1
     CLOSED_GRAPH = 2
@@ -227,7 +227,7 @@ def _alone(refusal: Exception) -> str:
     return refusal._happened if isinstance(refusal, Error) else str(refusal)
 
 
-# scripts/declarations.py makes these structs and calls of commitgraph.h.
+# gate/declarations.py makes these structs and calls of commitgraph.h.
 
 
 class _Graph(ctypes.Structure):
@@ -408,10 +408,10 @@ def _load() -> ctypes.CDLL:
 
 def _how_to_install() -> str:
     """How the library comes to where it is looked for."""
-    script = (CLONE / "scripts/library").resolve()
-    build = "run " + (shlex.quote(str(script)) if script.exists() else "scripts/library in a clone of Nolavimure")
+    script = (CLONE / "building/library").resolve()
+    build = "run " + (shlex.quote(str(script)) if script.exists() else "building/library in a clone of Nolavimure")
     first = "unset COMMITGRAPH_LIB and " if os.environ.get("COMMITGRAPH_LIB") else ""
-    return f"{first}{build}, which proves and builds it; or after scripts/install --library PREFIX let COMMITGRAPH_LIB name the folder PREFIX/lib"
+    return f"{first}{build}, which proves and builds it; or after building/install --library PREFIX let COMMITGRAPH_LIB name the folder PREFIX/lib"
 
 
 _library = _load()

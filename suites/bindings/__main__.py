@@ -1,22 +1,22 @@
-"""Tests the library for C, Rust, Python and Go: `python3 scripts/bindings [GRAPHTOOL [HISTORYTOOL]]`. Its last line is
+"""Tests the library for C, Rust, Python and Go: `python3 suites/bindings [GRAPHTOOL [HISTORYTOOL]]`. Its last line is
 `N passed, M failed`.
 
-It builds the static library, where it is not built, over what `rt ci` left, as scripts/library hands it out. What C and
+It builds the static library, where it is not built, over what `rt ci` left, as building/library hands it out. What C and
 Rust list and count is compared with what the program at the path GRAPHTOOL does, and what they
 tell of dates and filters also with what the one at HISTORYTOOL does. Where one is not given, or a compiler or a tool is missing,
 one line says what is left out. Where HISTORYTOOL is `-`, its path comes as a line of standard input: what needs it is done last.
 
-`python3 scripts/bindings --library LOG` only builds the static library, beside an `rt ci` that writes LOG, as soon as that has
+`python3 suites/bindings --library LOG` only builds the static library, beside an `rt ci` that writes LOG, as soon as that has
 proved the library for C.
 """
 import chunked
 import concurrent.futures
 import ctypes
+import fields
 import functools
 import gix
 import hashlib
 import large
-import layout
 import os
 import pathlib
 import real
@@ -30,7 +30,7 @@ import tempfile
 import threading
 import time
 
-sys.path.insert(0, str(pathlib.Path(__file__).resolve().parent.parent))
+sys.path[:0] = [str(pathlib.Path(__file__).resolve().parent.parent.parent / room) for room in ("suites", "gate", "building")]
 
 import declarations
 import later
@@ -38,7 +38,7 @@ import proving
 import refusal_table
 
 TOP = pathlib.Path(__file__).resolve().parent.parent.parent
-HERE = TOP / "scripts/bindings"
+HERE = TOP / "suites/bindings"
 HEADER = TOP / "bindings/c"
 NAME = proving.STATIC
 GRAPHTOOL, HISTORYTOOL = [*sys.argv[1:3], None, None][:2]
@@ -50,7 +50,7 @@ HELGRIND = ["valgrind", "-q", "--tool=helgrind", "--error-exitcode=99", f"--supp
 SANITIZED = "-Zsanitizer=thread -Cunsafe-allow-abi-mismatch=sanitizer"
 """Flags of a nightly Rust compiler. Its standard library is not built with them."""
 CALLING_ALL = ("ask.c", "large.c", "memory.c", "threads.c")
-"""The programs that make each call. Those of layout.c are the calls that write a struct."""
+"""The programs that make each call. Those of fields.c are the calls that write a struct."""
 IN_HEADER = {"cg_strerror", "cg_advice", "cg_closed", "cg_no_bytes", "cg_no_flag", "cg_not_lent"}
 """Functions that the header has whole."""
 SENTENCES = ("cg_strerror", "cg_advice")
@@ -101,7 +101,7 @@ def built():
         except RuntimeError as error:
             complaint = error
         expect("the library is proved and built", not complaint, complaint)
-    return pathlib.Path(run(TOP / "scripts/library").stdout.strip())
+    return pathlib.Path(run(TOP / "building/library").stdout.strip())
 
 
 def wait_for_crates(log):
@@ -356,49 +356,49 @@ def layers_of(where):
     return [folder / f"graph-{name}.graph" for name in (folder / "commit-graph-chain").read_text().split()]
 
 
-def fields(name, compiler, archive, scratch):
+def each_field(name, compiler, archive, scratch):
     """What calls write into each field of each struct, read by the layout of the header."""
-    program, file, source = (scratch / compiler / part for part in ("layout", "changed", "asserted.c"))
+    program, file, source = (scratch / compiler / part for part in ("fields", "changed", "asserted.c"))
     source.write_text(declarations.assertions((HEADER / "commitgraph.h").read_text()))
     done = run(compiler, "-std=c11", *STRICT, f"-I{HEADER}", "-c", source, "-o", os.devnull)
     expect(f"{name}: each struct lies in memory as in Rust and Python", done.returncode == 0, done.stderr)
-    done = run(compiler, "-std=c11", "-O1", *STRICT, f"-I{HEADER}", HERE / "layout.c", archive, "-o", program)
-    expect(f"{name}: layout.c", done.returncode == 0, done.stderr)
+    done = run(compiler, "-std=c11", "-O1", *STRICT, f"-I{HEADER}", HERE / "fields.c", archive, "-o", program)
+    expect(f"{name}: fields.c", done.returncode == 0, done.stderr)
     graph = scratch / "sha1/.git/objects/info/commit-graph"
-    history = layout.History(git(scratch / "sha1", "rev-list", "--parents", "main").splitlines())
-    rows, visits = layout.without_visits(run(program, graph).stdout.splitlines())
+    history = fields.History(git(scratch / "sha1", "rev-list", "--parents", "main").splitlines())
+    rows, visits = fields.without_visits(run(program, graph).stdout.splitlines())
     expect(f"{name}: each field of a right graph", rows == list(history.lines()), rows)
     expect(f"{name}: visits", max(visits, default=0) == len(history.ids), visits)
-    for fault, data, verdict, parents in layout.faults(graph.read_bytes(), history):
+    for fault, data, verdict, parents in fields.faults(graph.read_bytes(), history):
         file.write_bytes(data)
-        rows, _ = layout.without_visits(run(program, file).stdout.splitlines())
+        rows, _ = fields.without_visits(run(program, file).stdout.splitlines())
         told = [row for row in rows if row[0] == "commit"][verdict[4]]
         expect(f"{name}: each field, {fault}", ["verdict", *verdict] in rows and told[3:] == parents + parents, rows)
         expect(f"{name}: refused, {fault}", ["checked", verdict[0], 0, 0, 0] in rows, rows)
         alone_as_told(f"{name}: {fault}", rows, verdict)
-    for fault, data, dates in layout.date_faults(graph.read_bytes(), history):
+    for fault, data, dates in fields.date_faults(graph.read_bytes(), history):
         file.write_bytes(data)
-        rows, _ = layout.without_visits(run(program, file).stdout.splitlines())
+        rows, _ = fields.without_visits(run(program, file).stdout.splitlines())
         expect(f"{name}: each field, {fault}", ["dates", *dates] in rows, rows)
         code, position, layer, expected, _ = dates
         written = ["written", code, position, 0, 0, layer, expected, 0, 0, 0]
         expect(f"{name}: no layer on {fault}", written in rows, rows)
     whole = [layer.read_bytes() for layer in layers_of(chain(scratch, "sha1"))]
-    for fault, layers, error, verdict in layout.layered(whole):
+    for fault, layers, error, verdict in fields.layered(whole):
         files = [scratch / compiler / f"changed-{number}" for number in range(len(layers))]
         for path, data in zip(files, layers):
             path.write_bytes(data)
-        rows, _ = layout.without_visits(run(program, *files).stdout.splitlines())
+        rows, _ = fields.without_visits(run(program, *files).stdout.splitlines())
         expect(f"{name}: each field, {fault}", rows[0] == ["error", *error] and rows[1] == ["verdict", *verdict], rows)
         alone_as_told(f"{name}: {fault}", rows, verdict)
         told = [row[1:] for row in rows if row[0] == "layer"]
-        expect(f"{name}: layers, {fault}", told == (layout.layers_of(layers) if error[0] == 0 else []), told)
+        expect(f"{name}: layers, {fault}", told == (fields.layers_of(layers) if error[0] == 0 else []), told)
 
 
 def alone_as_told(name, rows, verdict):
     """What is told of layers alone: the fault of one that the verdict names; else that all are right."""
     alone, layers = ([row[1:] for row in rows if row[0] == word] for word in ("alone", "layer"))
-    at, wanted = layout.alone(verdict, layers) or (None, None)
+    at, wanted = fields.alone(verdict, layers) or (None, None)
     others = [row for number, row in enumerate(alone) if number != at]
     expect(f"{name}, each layer alone", all(row[0] == 0 for row in others) and (at is None or alone[at] == wanted), alone)
 
@@ -445,7 +445,7 @@ def asked(where, first, others):
 
 
 def same_as_real(name, program, scratch, folders=False):
-    """Each answer of the library beside that of `graphtool`, of the graphs of scripts/real_data and of its damaged files.
+    """Each answer of the library beside that of `graphtool`, of the graphs of suites/real_data and of its damaged files.
 
     A program that opens no chain by its lines is given the folder.
     """
@@ -582,7 +582,7 @@ def short_of_memory(program, scratch):
 
 
 def names_of_the_original(crate, environment, scratch):
-    """The crate with the names of `gix-commitgraph`, over the graphs of scripts/real_data: beside `graphtool`, and beside the original,
+    """The crate with the names of `gix-commitgraph`, over the graphs of suites/real_data: beside `graphtool`, and beside the original,
     or what it answered once."""
     done, program = gix.build(crate, environment)
     expect("gix-commitgraph: each public item", done.returncode == 0, done)
@@ -623,7 +623,7 @@ def c(compiler, archive, scratch, graphs):
             LAST.append(functools.partial(same_chunks, name, program, scratch))
         elif present("valgrind", "valgrind"):
             nothing_left(name, program, scratch, graphs)
-    fields(compiler, compiler, archive, scratch)
+    each_field(compiler, compiler, archive, scratch)
     warned_of(compiler, scratch)
     memory_to_write(compiler, archive, scratch)
     refused_and_shared(compiler, compiler, archive, scratch, graphs)
@@ -734,13 +734,13 @@ def refused_example(compiler, program, data, kind):
 
 
 def installed(compilers, scratch, graphs):
-    """What scripts/library puts below a folder, which is then moved: the example over it, as each kind of library is linked."""
+    """What building/library puts below a folder, which is then moved: the example over it, as each kind of library is linked."""
     prefix, ids = scratch / "installed elsewhere", graphs["sha1"][1]
-    done = run(TOP / "scripts/library", "--put", scratch / "put")
-    expect("scripts/library --put", done.returncode == 0, done)
+    done = run(TOP / "building/library", "--put", scratch / "put")
+    expect("building/library --put", done.returncode == 0, done)
     (scratch / "put").rename(prefix)
     put = {str(path.relative_to(prefix)) for path in prefix.rglob("*") if not path.is_dir()}
-    expect("scripts/library --files", put == set(run(TOP / "scripts/library", "--files").stdout.split()), put)
+    expect("building/library --files", put == set(run(TOP / "building/library", "--files").stdout.split()), put)
     page = (prefix / "share/man/man3/commitgraph.3").read_text()
     header = (prefix / "include/commitgraph.h").read_text()
     missing = [name for name in re.findall(r"^(?:static inline )?[\w ]+ \*?(cg_[a-z_]+)\(", header, re.MULTILINE) if name not in page]

@@ -1,5 +1,5 @@
 /* ask PATH list | verify | distinct | lines | dates | probe NAME | find ID | ancestor ID ID | parents ID | bases ID ID..: answers
- * through the library, for scripts/bindings, those of graphs and `find` and `ancestor` in the lines of `graphtool`, and `dates` and
+ * through the library, for suites/bindings, those of graphs and `find` and `ancestor` in the lines of `graphtool`, and `dates` and
  * what refuses a `probe` in lines of `historytool check`. The path is that of a file or of a chain. */
 #include "commitgraph.h"
 #include "commits.h"

@@ -1,5 +1,5 @@
 """Graphs with corrected dates and changed-path filters and without, right and wrong, for the library; and what has to be told
-of their dates and filters, by the plain reading of scripts/real_data."""
+of their dates and filters, by the plain reading of suites/real_data."""
 import functools
 import itertools
 import random

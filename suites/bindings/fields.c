@@ -1,5 +1,5 @@
-/* layout FILE..: what calls write into each field of each struct, on the layers of these files, which are opened without paths.
- * scripts/bindings compares it with what Git says. The structs have other bytes in them before each call. */
+/* fields FILE..: what calls write into each field of each struct, on the layers of these files, which are opened without paths.
+ * suites/bindings compares it with what Git says. The structs have other bytes in them before each call. */
 #include "commitgraph.h"
 #include "lines.h"
 #include <string.h>

@@ -1,4 +1,4 @@
-"""What calls write into each field of each struct, as `layout.c` prints it: what it has to be, by Git and by calculation."""
+"""What calls write into each field of each struct, as `fields.c` prints it: what it has to be, by Git and by calculation."""
 import collections
 import hashlib
 import struct

@@ -1,9 +1,9 @@
-"""The crate with the names of `gix-commitgraph`: a program that uses each public item, over the graphs of scripts/real_data, its
+"""The crate with the names of `gix-commitgraph`: a program that uses each public item, over the graphs of suites/real_data, its
 answers beside those of `graphtool` and of the original.
 
 The original is compiled where GIX_COMMITGRAPH names a folder with the sources of the crates `gix-commitgraph`, `gix-hash` and
 `memmap2`, and of those that they need, as `cargo vendor` lays them out. Where it is not there, what it answered once is compared,
-by the digests in `gix_answers.txt`: `python3 scripts/bindings/gix.py ORIGINAL` writes them, with the program built with the original.
+by the digests in `gix_answers.txt`: `python3 suites/bindings/gix.py ORIGINAL` writes them, with the program built with the original.
 """
 import functools
 import hashlib
@@ -16,7 +16,7 @@ import sys
 import tempfile
 
 RECORD = pathlib.Path(__file__).resolve().parent / "gix_answers.txt"
-HEAD = """# What `gix-commitgraph` 0.41.0 answers to `examples/every_item.rs` over the graphs of scripts/real_data, made by Git 2.39.5: for each a
+HEAD = """# What `gix-commitgraph` 0.41.0 answers to `examples/every_item.rs` over the graphs of suites/real_data, made by Git 2.39.5: for each a
 # digest of the bytes of its files, and one of the answers.
 """
 FEATURES = 'features = ["sha1", "sha256"]'

@@ -3,7 +3,7 @@ commits, each two commits on the merge before them, and their merge."""
 import array
 import hashlib
 import itertools
-import layout
+import fields
 import random
 import struct
 
@@ -153,20 +153,20 @@ def is_walk(data):
 def faults(data):
     """Files with a fault at the last commit, which stands at the last position but one; each with rows that are printed of it."""
     last = position(COMMITS - 1)
-    at = layout.chunk(data, b"CDAT") + RECORD.size * last
-    dates, index = (layout.chunk(data, name) + 4 * last for name in (b"GDA2", b"BIDX"))
+    at = fields.chunk(data, b"CDAT") + RECORD.size * last
+    dates, index = (fields.chunk(data, name) + 4 * last for name in (b"GDA2", b"BIDX"))
     number = generation(COMMITS - 1)
     tree = data
     for place in range(at, at + 20, 4):
-        tree = layout.changed(tree, place, 0)
+        tree = fields.changed(tree, place, 0)
     checks = (
-        ("tree", tree, layout.verdict(353, last, 0, last)),
-        ("parent", layout.changed(data, at + 20, COMMITS), layout.verdict(307, last, COMMITS, last)),
-        ("number", layout.changed(data, at + 28, (number + 1) << 2), layout.verdict(308, last, number, last)),
-        ("checksum", data[:-1] + bytes([data[-1] ^ 1]), layout.verdict(341)),
+        ("tree", tree, fields.verdict(353, last, 0, last)),
+        ("parent", fields.changed(data, at + 20, COMMITS), fields.verdict(307, last, COMMITS, last)),
+        ("number", fields.changed(data, at + 28, (number + 1) << 2), fields.verdict(308, last, number, last)),
+        ("checksum", data[:-1] + bytes([data[-1] ^ 1]), fields.verdict(341)),
     )
     for fault, changed, told in checks:
         yield fault, changed, [["checked", told[0], 0, 0], ["verdict", *told]]
-    yield "date", layout.changed(data, dates, number), [["dates", 405, last, 0, TIME - 1 + number, 0]]
-    yield "filter", layout.changed(data, index, 0), [["probed", 506, last, 0, 0, 0]]
+    yield "date", fields.changed(data, dates, number), [["dates", 405, last, 0, TIME - 1 + number, 0]]
+    yield "filter", fields.changed(data, index, 0), [["probed", 506, last, 0, 0, 0]]
     yield "cut", data[:-1], [["error", 115, 0, 0]]

@@ -1,4 +1,4 @@
-/* How large.c and layout.c write what they find: lines of a word and numbers. */
+/* How large.c and fields.c write what they find: lines of a word and numbers. */
 #ifndef LINES_H
 #define LINES_H
 

@@ -1,4 +1,4 @@
-"""The graphs and the damaged files of scripts/real_data, for the library: each with its name, its path and some ids."""
+"""The graphs and the damaged files of suites/real_data, for the library: each with its name, its path and some ids."""
 import functools
 import pathlib
 import sys

@@ -1,6 +1,6 @@
 """Checks `graphtool` and `historytool` on real data: commit-graphs that the installed Git writes, and damaged ones.
 
-usage: python3 scripts/real_data GRAPHTOOL HISTORYTOOL TEST_FILTERS [every-value] [NAME..]
+usage: python3 suites/real_data GRAPHTOOL HISTORYTOOL TEST_FILTERS [every-value] [NAME..]
 
 NAME is a file of the folder `checks`, such as show_checks; without one, all are run that have checks. A program whose path is `-`
 is still being built: its path comes as a line of standard input, and the checks that need GRAPHTOOL alone begin before.
@@ -45,7 +45,7 @@ is still being built: its path comes as a line of standard input, and the checks
   among noise; and graphs that take the place of one another, right and damaged ones, beside new runs, and while Git writes them.
 - `git cgraph`: each word, installed, in repositories of every kind, beside Git's own answers, and what is said
   of damaged ones: of each refusal, and of what happens to files. By the commands that it gives all is right again.
-- `git cgraph` beside a process that writes the commit-graph anew all the time: no run refuses it. scripts/races makes more
+- `git cgraph` beside a process that writes the commit-graph anew all the time: no run refuses it. suites/races makes more
   such runs.
 - `git cgraph write`, beside `git commit-graph write --reachable` in a copy of the same repository: the files are the same, bit by
   bit, and Git answers from them as before. Two writers at once, and no room on the disk; and all processes killed before each
@@ -77,7 +77,8 @@ from concurrent.futures import ProcessPoolExecutor
 from functools import partial
 
 HERE = os.path.dirname(os.path.abspath(__file__))
-sys.path.insert(0, os.path.dirname(HERE))
+SUITES = os.path.dirname(HERE)
+sys.path[:0] = [SUITES, *(os.path.join(os.path.dirname(SUITES), room) for room in ("gate", "building"))]
 
 from checks import rows
 from checks.program import LINES, FilterProgram, HistoryProgram, Program

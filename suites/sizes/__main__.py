@@ -1,14 +1,14 @@
 """Asks each command, each question and each call of the library for C about histories of every size that may be too large for
 something, and compares the answers with the plans of the histories.
 
-usage: python3 scripts/sizes [--large] [GRAPHTOOL HISTORYTOOL LIBRARY [NAME..]]
+usage: python3 suites/sizes [--large] [GRAPHTOOL HISTORYTOOL LIBRARY [NAME..]]
 
 The table is `table.py`, and the histories are in `shapes.py`: 300,040 commits with walks and searches of more than 200,000, a
 commit with 2,000 parents, 100 ids in one question, commits of 20 MB, a filter of 100 KiB, a chain of 256 layers, and a file of 100
 MB; each with SHA-1 and with SHA-256 ids. A check refuses a command, a question or a call that no row asks. Git has to find the
 smaller histories right, and to name the same merge bases.
 
-Without the programs and the shared library, `scripts/program` and `scripts/library` find them, and prove and build them first where
+Without the programs and the shared library, `building/program` and `building/library` find them, and prove and build them first where
 a source is newer. A path `-` comes as a line of standard input. NAME is that of a shape, as octopus, or of a row, as `ask walk`: then
 only these are asked. With `--large` the largest file is asked about by all rows, and not
 only by those that read little of it or are cheap. The last line is `N passed, M failed`.
@@ -19,8 +19,8 @@ import os
 import sys
 import tempfile
 
-SCRIPTS = os.path.dirname(os.path.dirname(os.path.abspath(__file__)))
-sys.path[:0] = [SCRIPTS]
+SUITES = os.path.dirname(os.path.dirname(os.path.abspath(__file__)))
+sys.path[:0] = [SUITES, os.path.join(os.path.dirname(SUITES), "gate")]
 
 from later import Later
 from results import Results

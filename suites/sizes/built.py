@@ -7,7 +7,6 @@ from sizes.library import TOP
 from wrappers.table import commands
 
 NAMES = "graphtool", "historytool"
-SCRIPTS = os.path.join(TOP, "scripts")
 
 
 def paths():
@@ -18,7 +17,7 @@ def paths():
 
 def path_of(script, *words):
     """The path that a script prints."""
-    return subprocess.check_output([os.path.join(SCRIPTS, script), *words], text=True).strip()
+    return subprocess.check_output([os.path.join(TOP, "building", script), *words], text=True).strip()
 
 
 def by_command(found):

@@ -1,4 +1,4 @@
-"""`python3 scripts/wrappers` checks the commands `git cgraph`, `graphtool` and `historytool` around their programs, their installation and
+"""`python3 suites/wrappers` checks the commands `git cgraph`, `graphtool` and `historytool` around their programs, their installation and
 releases.
 
 It runs copies of the scripts, with programs and an `rt` that these checks make. The last line is
@@ -8,7 +8,8 @@ It runs copies of the scripts, with programs and an `rt` that these checks make.
 import os
 import sys
 
-sys.path.insert(0, os.path.dirname(os.path.dirname(os.path.abspath(__file__))))
+SUITES = os.path.dirname(os.path.dirname(os.path.abspath(__file__)))
+sys.path[:0] = [SUITES, *(os.path.join(os.path.dirname(SUITES), room) for room in ("gate", "building"))]
 
 from results import Results
 from wrappers import commits, completions, coverage, installs, json_answers, packages, pasted, questions, releases, repositories, sentences, tools, writes

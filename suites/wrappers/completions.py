@@ -64,7 +64,7 @@ SECONDS = 30
 
 
 def check_all(results):
-    """The checks of both, with what scripts/install puts into a prefix."""
+    """The checks of both, with what building/install puts into a prefix."""
     with tempfile.TemporaryDirectory() as folder:
         clone = Clone(folder)
         for name in PROGRAMS:
@@ -72,8 +72,8 @@ def check_all(results):
         clone.put_library()
         repository = os.fsdecode(make_repository(clone, os.path.join(folder, "repository").encode()))
         prefix = os.path.join(folder, "prefix")
-        answer = clone.run(["scripts/install", prefix])
-        results.check("scripts/install, for completion", None if answer.status == 0 else "it is %r" % (answer,))
+        answer = clone.run(["building/install", prefix])
+        results.check("building/install, for completion", None if answer.status == 0 else "it is %r" % (answer,))
         variables = clone.surroundings(PATH=os.path.join(prefix, "bin") + ":" + os.environ["PATH"])
         for shell, check in (("zsh", check_zsh), ("fish", check_fish)):
             if shutil.which(shell):

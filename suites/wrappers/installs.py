@@ -1,4 +1,4 @@
-"""Checks scripts/install, the manual pages and the completion for bash."""
+"""Checks building/install, the manual pages and the completion for bash."""
 
 import os
 import shutil
@@ -12,7 +12,7 @@ from wrappers.table import commands, usage
 from wrappers.tools import read, usage_of
 
 ODD_PREFIX = "a prefix's \"$(name)\" *\n;"
-USAGE = "usage: scripts/install [--library] PREFIX | --remove PREFIX\n"
+USAGE = "usage: building/install [--library] PREFIX | --remove PREFIX\n"
 INSTALLED = {
     *("bin/git-cgraph", "bin/graphtool", "bin/historytool"),
     *("share/man/man1/git-cgraph.1", "share/man/man1/graphtool.1", "share/man/man1/historytool.1"),
@@ -21,13 +21,13 @@ INSTALLED = {
     *("lib/git-cgraph/git-cgraph", "lib/git-cgraph/graphtool", "lib/git-cgraph/historytool"),
     *("lib/git-cgraph/programs/graphtool", "lib/git-cgraph/programs/historytool"),
     *("lib/git-cgraph/docs/MANUAL.md", "lib/git-cgraph/tables/refusals.tsv"),
-    *("lib/git-cgraph/scripts/answers.sh", "lib/git-cgraph/scripts/usage.sh", "lib/git-cgraph/scripts/commands"),
-    *("lib/git-cgraph/scripts/explain.awk", "lib/git-cgraph/scripts/manual.awk", "lib/git-cgraph/scripts/alternates.awk"),
-    *("lib/git-cgraph/scripts/repository.sh", "lib/git-cgraph/scripts/anew.sh", "lib/git-cgraph/scripts/cures.sh"),
-    *("lib/git-cgraph/scripts/progress.sh", "lib/git-cgraph/scripts/objects.sh", "lib/git-cgraph/scripts/show.sh"),
-    *("lib/git-cgraph/scripts/locks.sh", "lib/git-cgraph/scripts/write.sh", "lib/git-cgraph/scripts/new_commits.awk"),
-    *("lib/git-cgraph/scripts/guard.sh", "lib/git-cgraph/scripts/question.sh"),
-    *("lib/git-cgraph/scripts/json.sh", "lib/git-cgraph/scripts/json.awk", "lib/git-cgraph/scripts/fields", "lib/git-cgraph/scripts/fields.awk"),
+    *("lib/git-cgraph/shell/answers.sh", "lib/git-cgraph/shell/usage.sh", "lib/git-cgraph/tables/commands"),
+    *("lib/git-cgraph/shell/explain.awk", "lib/git-cgraph/shell/manual.awk", "lib/git-cgraph/shell/alternates.awk"),
+    *("lib/git-cgraph/shell/repository.sh", "lib/git-cgraph/shell/anew.sh", "lib/git-cgraph/shell/cures.sh"),
+    *("lib/git-cgraph/shell/progress.sh", "lib/git-cgraph/shell/objects.sh", "lib/git-cgraph/shell/show.sh"),
+    *("lib/git-cgraph/shell/locks.sh", "lib/git-cgraph/shell/write.sh", "lib/git-cgraph/shell/new_commits.awk"),
+    *("lib/git-cgraph/shell/guard.sh", "lib/git-cgraph/shell/question.sh"),
+    *("lib/git-cgraph/shell/json.sh", "lib/git-cgraph/shell/json.awk", "lib/git-cgraph/tables/fields", "lib/git-cgraph/shell/fields.awk"),
     *("share/doc/git-cgraph/LICENSE-MIT", "share/doc/git-cgraph/LICENSE-APACHE", "share/doc/git-cgraph/DIFFERENCES.md"),
     "share/doc/git-cgraph/REFUSALS.md",
 }
@@ -44,7 +44,7 @@ COMPLETIONS = ("/usr/share/bash-completion/completions/git", "/etc/bash_completi
 """Where Git's own completion mostly is."""
 
 PROVES = """#!/bin/sh
-top=${1%/scripts/*}
+top=${1%/building/*}
 shift
 echo "$@" >>"$top/runs"
 for name; do
@@ -53,7 +53,7 @@ for name; do
     echo made >"$top/crates/$name/out/$made"
 done
 """
-"""A `python3` in the place of scripts/proving.py: it notes the names of each run, and makes a file for each name."""
+"""A `python3` in the place of building/proving.py: it notes the names of each run, and makes a file for each name."""
 MAKES = "#!/bin/sh\nwhile [ $# -gt 1 ]; do case $1 in -o | rcD) echo made >\"$2\" ;; esac; shift; done\n"
 """A tool that makes what it is asked for."""
 
@@ -89,7 +89,7 @@ def check_all(results):
         check_pages(results, clone, os.path.join(folder, "prefix"))
         check_completion(results, clone, repository)
         check_away(results, clone, folder, repository)
-        results.check("scripts/install, nothing is left over", clone.left_over())
+        results.check("building/install, nothing is left over", clone.left_over())
     with tempfile.TemporaryDirectory() as folder:
         check_library(results, folder)
     for words in ([], ["--library"]):
@@ -98,8 +98,8 @@ def check_all(results):
 
 
 def install(clone, *words, **streams):
-    """The answer of scripts/install."""
-    return clone.run(["scripts/install", *words], **streams)
+    """The answer of building/install."""
+    return clone.run(["building/install", *words], **streams)
 
 
 def below(prefix):
@@ -115,10 +115,10 @@ def check_words(results, clone):
     """Other words than a prefix end with the usage text."""
     taken = ([], [""], ["a", "b"], ["--help"], ["--remove"], ["--remove", "a", "b"], ["--library"], ["--library", "a", "b"])
     for words in (*taken, ["--library", "--remove", "a"], ["--remove", "--library", "a"], ["a", "--library"]):
-        results.check("scripts/install %s" % " ".join(words), exactly(install(clone, *words), 2, "", USAGE))
+        results.check("building/install %s" % " ".join(words), exactly(install(clone, *words), 2, "", USAGE))
     answer = install(clone, "--remove", clone.folder)
     right = answer[:2] == (1, "") and "nothing was put below" in answer.err
-    results.check("scripts/install --remove, where nothing was put", None if right else "it is %r" % (answer,))
+    results.check("building/install --remove, where nothing was put", None if right else "it is %r" % (answer,))
 
 
 def files_below(prefix):
@@ -129,7 +129,7 @@ def files_below(prefix):
 def check_put(results, title, answer, prefix, files):
     """An installation put just these files."""
     complaint = None if answer.status == 0 and files_below(prefix) == files else "it is %r with %s" % (answer, sorted(files_below(prefix) ^ files))
-    results.check("scripts/install, " + title, complaint)
+    results.check("building/install, " + title, complaint)
 
 
 def check_removed(results, title, clone, prefix):
@@ -137,14 +137,14 @@ def check_removed(results, title, clone, prefix):
     answer = install(clone, "--remove", prefix)
     left = os.path.lexists(prefix) and below(prefix)
     complaint = exactly(answer, 0, "") or (None if left is False else "it left %s" % left)
-    results.check("scripts/install --remove, " + title, complaint)
+    results.check("building/install --remove, " + title, complaint)
 
 
 def check_alone(results, clone, prefix):
     """The programs are put where no library is built; with it, nothing is put, since it cannot be built."""
     answer = install(clone, "--library", prefix)
     right = answer[:2] == (1, "") and "rt" in answer.err and not os.path.lexists(prefix)
-    results.check("scripts/install --library, with no library built and no rt", None if right else "it is %r" % (answer,))
+    results.check("building/install --library, with no library built and no rt", None if right else "it is %r" % (answer,))
     check_put(results, "with no library built and no rt", install(clone, prefix), prefix, INSTALLED)
     check_removed(results, "with no library built", clone, prefix)
 
@@ -167,7 +167,7 @@ def check_again(results, clone, prefix):
         answer = install(clone, prefix)
         check_put(results, title, answer, prefix, INSTALLED | OF_LIBRARY)
         right = version.read("lib/libcommitgraph.a", prefix) == "put before\n" and "the library for C stays" in answer.err
-        results.check("scripts/install, %s: the library stays" % title, None if right else "it is %r" % (answer,))
+        results.check("building/install, %s: the library stays" % title, None if right else "it is %r" % (answer,))
     check_removed(results, "of a library that stayed", clone, prefix)
     install(clone, prefix)
     answer = install(clone, "--library", prefix)
@@ -177,7 +177,7 @@ def check_again(results, clone, prefix):
 
 def check_older(results, clone, prefix):
     """What an older version put, by its list, is taken away by another: of its library only where there is a new one."""
-    older = {"lib/libcommitgraph.so.0.0.1", "lib/git-cgraph/scripts/older.sh", "lib/git-cgraph/older/words"}
+    older = {"lib/libcommitgraph.so.0.0.1", "lib/git-cgraph/shell/older.sh", "lib/git-cgraph/older/words"}
     for words, files in (([], INSTALLED | OF_LIBRARY | {"lib/libcommitgraph.so.0.0.1"}), (["--library"], INSTALLED | OF_LIBRARY)):
         install(clone, "--library", prefix)
         os.mkdir(os.path.join(prefix, "lib/git-cgraph/older"))
@@ -189,7 +189,7 @@ def check_older(results, clone, prefix):
         title = " ".join([*words, "over what an older version put"])
         check_put(results, title, install(clone, *words, prefix), prefix, files)
         left = os.path.lexists(os.path.join(prefix, "lib/git-cgraph/older"))
-        results.check("scripts/install, %s: its folder" % title, "it is there" if left else None)
+        results.check("building/install, %s: its folder" % title, "it is there" if left else None)
         check_removed(results, title, clone, prefix)
 
 
@@ -203,20 +203,20 @@ def check_beside(results, clone, prefix):
     before = below(prefix)
     answer = install(clone, "prefix/bin/other/prefix", cwd=os.path.dirname(prefix))
     right = answer[:2] == (1, "") and "install: '%s/bin/other' is not a folder" % prefix in answer.err and below(prefix) == before
-    results.check("scripts/install, below a file", None if right else "it is %r" % (answer,))
+    results.check("building/install, below a file", None if right else "it is %r" % (answer,))
     check_closed(results, clone, prefix)
     os.symlink("other", os.path.join(prefix, "bin", "graphtool"))
     answer = install(clone, "prefix", cwd=os.path.dirname(prefix))
     right = answer[:2] == (1, "") and "bin/graphtool is there" in answer.err and below(prefix) == before | {"bin/graphtool"}
-    results.check("scripts/install, beside a file of the same name", None if right else "it is %r" % (answer,))
+    results.check("building/install, beside a file of the same name", None if right else "it is %r" % (answer,))
     os.remove(os.path.join(prefix, "bin", "graphtool"))
     answer = install(clone, "prefix", cwd=os.path.dirname(prefix))
     right = answer.status == 0 and INSTALLED < below(prefix) and not OF_LIBRARY & below(prefix)
-    results.check("scripts/install, beside other files", None if right else "it is %r" % (answer,))
+    results.check("building/install, beside other files", None if right else "it is %r" % (answer,))
     check_header(results, clone, prefix)
     answer = install(clone, "--remove", prefix)
     complaint = exactly(answer, 0, "") or (None if below(prefix) == before else "there is %s" % sorted(below(prefix) ^ before))
-    results.check("scripts/install --remove, beside other files", complaint)
+    results.check("building/install --remove, beside other files", complaint)
 
 
 def check_header(results, clone, prefix):
@@ -227,7 +227,7 @@ def check_header(results, clone, prefix):
     answer = install(clone, "--library", prefix)
     added = below(prefix) - before
     right = answer[:2] == (1, "") and "include/commitgraph.h is there" in answer.err and added == {"include/", "include/commitgraph.h"}
-    results.check("scripts/install --library, beside a header of others", None if right else "it is %r" % (answer,))
+    results.check("building/install --library, beside a header of others", None if right else "it is %r" % (answer,))
     shutil.rmtree(os.path.join(prefix, "include"))
 
 
@@ -238,7 +238,7 @@ def check_closed(results, clone, prefix):
     if not os.access(folder, os.W_OK):
         answer = install(clone, prefix)
         right = answer[:2] == (1, "") and "install: the folder '%s' may not be written" % folder in answer.err
-        results.check("scripts/install, where nothing may be written", None if right else "it is %r" % (answer,))
+        results.check("building/install, where nothing may be written", None if right else "it is %r" % (answer,))
     os.chmod(folder, 0o755)
 
 
@@ -273,21 +273,21 @@ def check_library(results, folder):
     proved = "crates/commitgraph_c/out/libcommitgraph_c.a"
     clone.put(proved, "")
     clone.put("bin/python3", "#!/bin/sh\necho 'no proof' >&2\nexit 1\n")
-    answer = clone.run(["scripts/library"])
+    answer = clone.run(["building/library"])
     right = answer.status == 0 and answer.out.endswith("/libcommitgraph.a\n")
-    results.check("scripts/library, of what is proved", None if right else "it is %r" % (answer,))
+    results.check("building/library, of what is proved", None if right else "it is %r" % (answer,))
     clone.put("crates/graph_walks/src/lib.rt", "")
     for name in (proved, "crates/commitgraph_c/out/libcommitgraph.a"):
         os.utime(os.path.join(clone.folder, name), (0, 0))
-    answer = clone.run(["scripts/library"])
+    answer = clone.run(["building/library"])
     right = answer.status == 1 and not answer.out and answer.err.endswith("no proof\n")
-    results.check("scripts/library, where the proofs fail", None if right else "it is %r" % (answer,))
+    results.check("building/library, where the proofs fail", None if right else "it is %r" % (answer,))
 
 
 def check_run(results, folder, words):
     """Where nothing is built, one run proves all that is put; where it fails, nothing is put."""
     clone, prefix = Clone(folder), os.path.join(folder, "prefix")
-    title = " ".join(["scripts/install", *words])
+    title = " ".join(["building/install", *words])
     wanted = [*PROGRAMS, *(["commitgraph_c"] if words else [])]
     clone.put("bin/rt", MAKES)
     if words:
@@ -323,7 +323,7 @@ def check_completion(results, clone, repository):
         print("left out, since there is no completion of Git's for bash: that of git cgraph")
         return
     ours = os.path.join(clone.folder, "completion")
-    made = 'awk -v shell=bash -f scripts/completions.awk scripts/commands docs/MANUAL.md >"$1"'
+    made = 'awk -v shell=bash -f building/completions.awk tables/commands docs/MANUAL.md >"$1"'
     subprocess.run(["sh", "-c", made, "sh", ours], cwd=TOP, check=True)
     for words, offered in {
         ("ver",): {"verify"},
@@ -381,4 +381,4 @@ def check_away(results, clone, folder, repository):
         os.remove(os.path.join(clone.folder, "crates", name, "out", name))
     answer = install(clone, prefix + " 2")
     right = answer.status == 1 and "rt" in answer.err and not os.path.lexists(prefix + " 2")
-    results.check("scripts/install, with nothing built and no rt", None if right else "it is %r" % (answer,))
+    results.check("building/install, with nothing built and no rt", None if right else "it is %r" % (answer,))

@@ -1,6 +1,6 @@
 """Checks `git cgraph --json`: each answer is read by Python's own reader, and its values are those of the plain answer.
 
-The table scripts/fields is read here by another way than scripts/fields.awk goes, so that `scripts/real_data` compares any
+The table tables/fields is read here by another way than shell/fields.awk goes, so that `suites/real_data` compares any
 answer. What it makes of some answers stands in ANSWERS, by the manual; and the manual names each field of the table.
 """
 
@@ -168,7 +168,7 @@ def fields_of(command, text):
 
 
 def made_of(command, words):
-    """What the table scripts/fields makes of a line of a command."""
+    """What the table tables/fields makes of a line of a command."""
     for commands, *pattern, _, made in ROWS:
         if command in commands.split(",") and len(pattern) == len(words) and all(map(fits, pattern, words)):
             for part in made:
@@ -189,7 +189,7 @@ def fits(pattern, word):
 
 def read_rows():
     """The rows of the table: the commands, the words of a line, a colon, and what becomes of it."""
-    with open(os.path.join(TOP, "scripts", "fields"), encoding="utf-8") as file:
+    with open(os.path.join(TOP, "tables", "fields"), encoding="utf-8") as file:
         halves = [line.split(" : ") for line in file if not line.startswith("#")]
     return [[*line.split(), ":", made.split()] for line, made in halves]
 

@@ -1,4 +1,4 @@
-"""Checks scripts/package: an archive and a package for Debian, unpacked and taken away in folders of their own."""
+"""Checks building/package: an archive and a package for Debian, unpacked and taken away in folders of their own."""
 
 import os
 import shutil
@@ -12,7 +12,7 @@ from wrappers.installs import INSTALLED, OF_LIBRARY, below
 
 TOOLS = ("gzip", "tar", "uname", "dpkg", "dpkg-deb")
 LIST = "lib/git-cgraph/installed"
-"""What scripts/install notes for its own use."""
+"""What building/install notes for its own use."""
 PACKED = INSTALLED | OF_LIBRARY
 
 
@@ -27,17 +27,17 @@ def check_all(results):
             if shutil.which(tool):
                 os.symlink(shutil.which(tool), os.path.join(clone.folder, "bin", tool))
         for words in ([], [""], ["--help"], ["a", "b"]):
-            usage = "usage: scripts/package FOLDER\n"
-            results.check("scripts/package %s" % " ".join(words), exactly(clone.run(["scripts/package", *words]), 2, "", usage))
+            usage = "usage: building/package FOLDER\n"
+            results.check("building/package %s" % " ".join(words), exactly(clone.run(["building/package", *words]), 2, "", usage))
         made = os.path.join(folder, "packages")
-        answer = clone.run(["scripts/package", made])
-        results.check("scripts/package", None if answer[:2] == (0, "") else "it is %r" % (answer,))
+        answer = clone.run(["building/package", made])
+        results.check("building/package", None if answer[:2] == (0, "") else "it is %r" % (answer,))
         check_archive(results, clone, made, os.path.join(folder, "unpacked"))
         if shutil.which("dpkg-deb") and os.geteuid() == 0:
             check_debian(results, clone, made, os.path.join(folder, "root"))
         else:
             print("left out, since there is no dpkg-deb or no right to install: the package for Debian")
-        results.check("scripts/package, nothing is left over", clone.left_over())
+        results.check("building/package, nothing is left over", clone.left_over())
 
 
 def check_archive(results, clone, made, folder):

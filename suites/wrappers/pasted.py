@@ -505,7 +505,7 @@ ROWS = DAMAGED + OTHERS + UNUSED + LACKING + KEPT
 CALLERS = {"give_up", "fail", "write_object", "covers"}
 """Functions that print the commands of others, or none."""
 
-SOURCES = ("git-cgraph", *("scripts/%s.sh" % name for name in ("anew", "cures", "locks", "objects", "progress", "repository", "show", "write")))
+SOURCES = ("git-cgraph", *("shell/%s.sh" % name for name in ("anew", "cures", "locks", "objects", "progress", "repository", "show", "write")))
 PRINTS = re.compile(r"""cure=(?!'')|["'+}] {4}(rm|ls|df|%s|\$)""")
 READS = {"git rev-parse NAME", "git cat-file --batch", "git fsck", "git rev-list --all", "git commit-graph verify"}
 NO_COMMANDS = {"git --no-replace-objects", "git replace", "git commit-graph write"}

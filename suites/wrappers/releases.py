@@ -1,4 +1,4 @@
-"""Checks scripts/release, in a copy of its files with a gate that the checks make."""
+"""Checks building/release, in a copy of its files with a gate that the checks make."""
 
 import datetime
 import os
@@ -9,7 +9,7 @@ import tempfile
 import version
 from wrappers.clone import TOP, run
 
-COPIED = ("scripts/release", "scripts/version.py", version.CHANGES, *(path for path, _ in version.PLACES + version.AS_ONE))
+COPIED = ("building/release", "building/version.py", version.CHANGES, *(path for path, _ in version.PLACES + version.AS_ONE))
 NAME = {"GIT_%s_%s" % (who, what): "name@example.com" for who in ("AUTHOR", "COMMITTER") for what in ("NAME", "EMAIL")}
 CHANGES = "# Changes\n\n## Unreleased\n\n- one\n\n## %s, 2020-01-01\n\n- none\n"
 
@@ -23,8 +23,8 @@ class Copy:
             os.makedirs(os.path.dirname(os.path.join(folder, path)), exist_ok=True)
             shutil.copy(os.path.join(TOP, path), os.path.join(folder, path))
         version.write(version.CHANGES, changes, folder)
-        version.write("scripts/test", "#!/bin/sh\nexit %d\n" % gate, folder)
-        os.chmod(os.path.join(folder, "scripts", "test"), 0o755)
+        version.write("gate/test", "#!/bin/sh\nexit %d\n" % gate, folder)
+        os.chmod(os.path.join(folder, "gate", "test"), 0o755)
         for words in (["init", "--quiet"], ["add", "--all"], ["commit", "--quiet", "--message", "All"]):
             self.git(*words)
 
@@ -34,8 +34,8 @@ class Copy:
         return subprocess.run(command, env=variables(), check=True, stdout=subprocess.PIPE, text=True).stdout
 
     def release(self, *words):
-        """The answer of scripts/release."""
-        return run([os.path.join(self.folder, "scripts", "release"), *words], variables())
+        """The answer of building/release."""
+        return run([os.path.join(self.folder, "building", "release"), *words], variables())
 
 
 def variables():
@@ -56,13 +56,13 @@ def check_release(results):
         copy = Copy(folder)
         answer = copy.release("99.1.0")
         complaint = None if answer.status == 0 else "it is %r" % (answer,)
-        results.check("scripts/release", complaint or next(version.wrong_places(folder), None))
+        results.check("building/release", complaint or next(version.wrong_places(folder), None))
         heading = "## 99.1.0, %s\n\n- one\n\n## %s, " % (datetime.date.today().isoformat(), version.number())
         changes = version.read(version.CHANGES, folder)
         right = version.number(folder) == "99.1.0" and heading in changes and version.UNRELEASED not in changes
-        results.check("scripts/release, the changes are dated", None if right else "they are %r" % changes)
+        results.check("building/release, the changes are dated", None if right else "they are %r" % changes)
         right = copy.git("rev-parse", "v99.1.0^{commit}") == copy.git("rev-parse", "HEAD") and not copy.git("status", "--porcelain")
-        results.check("scripts/release, a tag leads to the commit", None if right else copy.git("log", "--oneline", "--decorate"))
+        results.check("building/release, a tag leads to the commit", None if right else copy.git("log", "--oneline", "--decorate"))
 
 
 def check_gate(results):
@@ -73,7 +73,7 @@ def check_gate(results):
         answer = copy.release("99.1.0")
         right = answer.status == 1 and "the gate failed" in answer.err and copy.git("rev-parse", "HEAD") == before
         right = right and not copy.git("tag", "--list") and not copy.git("status", "--porcelain")
-        results.check("scripts/release, the gate fails", None if right else "it is %r" % (answer,))
+        results.check("building/release, the gate fails", None if right else "it is %r" % (answer,))
 
 
 def check_refusals(results):
@@ -87,10 +87,10 @@ def check_refusals(results):
         with tempfile.TemporaryDirectory() as folder:
             answer = Copy(folder, changes=changes % version.number()).release(*words)
             right = answer[:2] == (1, "") and why in answer.err
-            results.check("scripts/release, " + title, None if right else "it is %r" % (answer,))
+            results.check("building/release, " + title, None if right else "it is %r" % (answer,))
     with tempfile.TemporaryDirectory() as folder:
         copy = Copy(folder)
         version.write("more", "more\n", folder)
         answer = copy.release("99.1.0")
         right = answer[:2] == (1, "") and "not committed" in answer.err
-        results.check("scripts/release, of what is not committed", None if right else "it is %r" % (answer,))
+        results.check("building/release, of what is not committed", None if right else "it is %r" % (answer,))

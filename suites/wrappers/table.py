@@ -1,4 +1,4 @@
-"""The commands, as scripts/commands lists them."""
+"""The commands, as tables/commands lists them."""
 
 import os
 from typing import List, NamedTuple
@@ -38,7 +38,7 @@ class Command(NamedTuple):
 
 def commands(program=None):
     """All commands, or those of a program."""
-    with open(os.path.join(TOP, "scripts", "commands"), encoding="utf-8") as file:
+    with open(os.path.join(TOP, "tables", "commands"), encoding="utf-8") as file:
         rows = [line.split(None, 5) for line in file if not line.startswith("#")]
     listed = [Command(*row[:4], row[4] == "yes", row[5].strip()) for row in rows]
     return [command for command in listed if program in (None, command.program)]

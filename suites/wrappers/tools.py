@@ -39,11 +39,11 @@ KIT = re.compile(r"^ {4}(rattle-kit-\S+ logic \w+)$", re.MULTILINE)
 
 BUILD = """#!/bin/sh
 echo progress
-cd "${1%/scripts/*}/crates/$2"
+cd "${1%/building/*}/crates/$2"
 mkdir out
 cp built "out/$2"
 """
-"""A `python3` that builds a program from the file `built` beside its sources, in the place of scripts/proving.py."""
+"""A `python3` that builds a program from the file `built` beside its sources, in the place of building/proving.py."""
 
 
 def check_all(results):

@@ -229,7 +229,7 @@ def split(sizes, number):
 
 def check_newest(results, folder):
     """Which of the newest commits are new, and whether these are all, by each awk."""
-    program = os.path.join(TOP, "scripts", "new_commits.awk")
+    program = os.path.join(TOP, "shell", "new_commits.awk")
     for awk in filter(lambda awk: shutil.which(awk[0]), AWKS):
         wrong = []
         for texts, (status, out) in NEWEST.items():
@@ -286,7 +286,7 @@ def check_locked(results, written):
 
 def check_given_back(results):
     """A lock that is given back as it is seen is named, and one that is given back as it is taken is taken."""
-    calls = """. ./scripts/locks.sh
+    calls = """. ./shell/locks.sh
 single=/a/file chain=/a/folder/chain looks=0 tries=0
 quoted() { printf '%s' "$1"; }
 fail() { printf '%s\\n' "$@"; return 1; }

@@ -1,5 +1,5 @@
 //! The numbers of causes, as `commitgraph.h` has them: all of them, also those that this crate does not ask about.
-//! `scripts/refusal_table.py` writes them here, of `tables/refusals.tsv`.
+//! `gate/refusal_table.py` writes them here, of `tables/refusals.tsv`.
 
 #![allow(dead_code)]
 

@@ -7,7 +7,7 @@ pub const NOT_LENT: Lent = Lent { bytes: b"".as_ptr(), len: 0 };
 pub const NO_BYTES: Bytes = Bytes { address: std::ptr::null(), kept: false };
 pub const NO_FLAG: Flag = Flag { address: std::ptr::null(), kept: false };
 
-// What follows is made of `commitgraph.h` by `scripts/declarations.py`.
+// What follows is made of `commitgraph.h` by `gate/declarations.py`.
 
 #[repr(C)]
 #[derive(Clone, Copy, Debug)]

@@ -1,6 +1,6 @@
 """Checks `git cgraph`, installed, beside Git's own answers: in repositories of every kind, and in damaged ones.
 
-The programs under test are installed by scripts/install, from a copy of the scripts.
+The programs under test are installed by building/install, from a copy of the scripts.
 """
 
 import itertools
@@ -51,7 +51,7 @@ class Installed:
             shutil.copy(program.path, os.path.join(self.clone.folder, "crates", name, "out", name))
         self.clone.put_library()
         self.prefix = os.path.join(folder, "a prefix")
-        self.installation = self.clone.run(["scripts/install", self.prefix])
+        self.installation = self.clone.run(["building/install", self.prefix])
         tools = os.path.join(self.clone.folder, "bin")
         self.variables = self.clone.surroundings(PATH=os.path.join(self.prefix, "bin") + ":" + tools)
         usage = programs[1].run(stdin=subprocess.DEVNULL).err
@@ -83,7 +83,7 @@ def check_all(programs, results, folder, new):
     """The other checks of `git cgraph`; a new repository comes from a function of its object format and its name."""
     installed = Installed(os.path.join(folder, "installed"), programs)
     complaint = None if installed.installation.status == 0 else "it is %r" % (installed.installation,)
-    results.check("scripts/install, with the programs", complaint)
+    results.check("building/install, with the programs", complaint)
     check_empty(installed, results, new("sha1", "asked, empty"))
     check_abbreviation(installed, results, new("sha1", "asked, abbreviations"))
     check_session(installed, results, os.path.join(folder, "repository"))
@@ -94,9 +94,9 @@ def check_all(programs, results, folder, new):
     for flags in (("--split",), ("--split", "--changed-paths")):
         check_pool(installed, results, new("sha1", "asked, a pool %s" % " ".join(flags)), flags)
     results.check("git cgraph, nothing is left over", installed.clone.left_over())
-    answer = installed.clone.run(["scripts/install", "--remove", installed.prefix])
+    answer = installed.clone.run(["building/install", "--remove", installed.prefix])
     gone = answer.status == 0 and not os.path.lexists(installed.prefix)
-    results.check("scripts/install --remove, with the programs", None if gone else "it is %r" % (answer,))
+    results.check("building/install --remove, with the programs", None if gone else "it is %r" % (answer,))
 
 
 def check_session(installed, results, folder):

@@ -8,7 +8,7 @@ from expected import judge
 from histories.repository import read_bytes
 
 TOP = os.path.abspath(os.path.join(os.path.dirname(os.path.abspath(__file__)), *[os.pardir] * 3))
-BY_TABLE = ["sh", "-c", 'top=$1 name=$2; . "$top/scripts/usage.sh"; usage', "sh", TOP, "historytool"]
+BY_TABLE = ["sh", "-c", 'top=$1 name=$2; . "$top/shell/usage.sh"; usage', "sh", TOP, "historytool"]
 USAGE = subprocess.check_output(BY_TABLE, text=True)
 """What the program writes on standard error where its words are no command, and the first line of its help: as the table of
 commands has it."""

@@ -8,11 +8,11 @@ TOO_LARGE = {"refused open 6 graph 2", "refused file 14"}
 """Lines for files of many gigabytes, which no check here makes."""
 
 NO_MEMORY = "memory ran out"
-"""The beginning of rows whose lines depend on the machine; scripts/refused_memory has them all."""
+"""The beginning of rows whose lines depend on the machine; suites/refused_memory has them all."""
 
 ELSEWHERE = {"anew", "no-answer", "git", "advice"}
-"""Tables with rows of no line, of lines on standard error and of lines of `git cgraph`, which scripts/wrappers has, and of
-the library, which scripts/bindings has."""
+"""Tables with rows of no line, of lines on standard error and of lines of `git cgraph`, which suites/wrappers has, and of
+the library, which suites/bindings has."""
 
 
 def check_rows(results):
