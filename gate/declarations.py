@@ -15,6 +15,9 @@ RUST, PYTHON = "bindings/rust/src/sys.rs", "bindings/python/commitgraph.py"
 COMMENT = re.compile(r"/\*.*?\*/", re.DOTALL)
 STRUCT = re.compile(r"^typedef struct (cg_\w+) \{(.*?)\} \1;$", re.MULTILINE | re.DOTALL)
 CALL = re.compile(r"^(?:CG_NODISCARD )?([\w ]+?) (cg_\w+)\(([^;]*?)\)(?: CG_NONNULL\(\([^;]*\)\))?;$", re.MULTILINE)
+ENUM = re.compile(r"^enum cg_\w+ \{ (.*) \};$", re.MULTILINE)
+"""An enum on one line. That of the numbers of causes has many, and comes from the table of refusals."""
+
 DECLARED = re.compile(r"((?:const )?(?:struct )?\w+) (\*?)(\w+)")
 WHOLE = re.compile(r"(static )?inline const char \*(cg_\w+)\((\w+) (\w+)\) \{")
 """A call that the header has whole, and the library has too."""
@@ -53,6 +56,11 @@ def declared(text):
     structs = [Struct(name, list(fields(body))) for name, body in STRUCT.findall(text)]
     calls = [Call(answer, name, list(map(named, split(taken)))) for answer, name, taken in CALL.findall(text)]
     return structs, calls
+
+
+def constants(text):
+    """The names of the small enums of the header, with their numbers."""
+    return [(name, int(number)) for body in ENUM.findall(text) for name, number in re.findall(r"CG_(\w+) = (\d+)", body)]
 
 
 def fields(body):
@@ -134,7 +142,8 @@ WIDEST = 120
 def rust(header, text):
     """The module for Rust with the structs and calls of the header."""
     structs, calls = declared(header)
-    parts = [struct_in_rust(struct, structs) for struct in structs]
+    parts = ["".join("pub const %s: u32 = %d;\n" % constant for constant in constants(header))]
+    parts += [struct_in_rust(struct, structs) for struct in structs]
     parts.append('extern "C" {\n%s}\n' % "".join(map(call_in_rust, calls)))
     parts.append(layout_in_rust(structs))
     return IN_RUST.sub(lambda found: "\n" + "\n".join(parts), text)
@@ -200,7 +209,7 @@ def layout_in_rust(structs):
 # Python.
 
 IN_PYTHON = re.compile(
-    r"(?<=\n# gate/declarations\.py makes these structs and calls of commitgraph\.h\.\n).*?(?=\"\"\"What each call that is used here)",
+    r"(?<=\n# gate/declarations\.py makes these numbers, structs and calls of commitgraph\.h\.\n).*?(?=\"\"\"What each call that is used here)",
     re.DOTALL,
 )
 PYTHON_KINDS = {"bool": "c_bool", "uint8_t": "c_uint8", "uint32_t": "c_uint32", "uint64_t": "c_uint64", "size_t": "c_size_t"}
@@ -217,6 +226,8 @@ def python(header, text):
     used |= {field.kind for struct in structs if struct.name in used for field in struct.fields}
     used &= {struct.name for struct in structs}
     parts = ["\n%s" % struct_in_python(struct) for struct in structs if struct.name in used]
+    named = ["%s = %d\n" % (name, number) for name, number in constants(header) if re.search(r"\b%s\b" % name, by_hand)]
+    parts[0] = "".join(named) + "\n" + parts[0]
     taken = [(call.name, python_kind(call.answer), [type_in_python(one, used) for one in call.taken]) for call in calls]
     taken += [(name, "c_char_p", [PYTHON_KINDS[kind]]) for _, name, kind, _ in WHOLE.findall(header) if "_library.%s(" % name in by_hand]
     lines = "".join(line_in_python(*call) for call in taken)

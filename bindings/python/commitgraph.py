@@ -227,7 +227,16 @@ def _alone(refusal: Exception) -> str:
     return refusal._happened if isinstance(refusal, Error) else str(refusal)
 
 
-# gate/declarations.py makes these structs and calls of commitgraph.h.
+# gate/declarations.py makes these numbers, structs and calls of commitgraph.h.
+
+ANYTHING = 0
+FILE = 1
+NOTHING = 0
+READ = 1
+FOLDER = 2
+UNOPENED = 3
+UNREAD = 4
+NO_MEMORY = 5
 
 
 class _Graph(ctypes.Structure):
@@ -766,13 +775,6 @@ def chain_lines(text: bytes) -> Iterator[bytes]:
     while (line := _library.cg_chain_line(_at(text), len(text), start)).found:
         yield text[start : line.end]
         start = line.next
-
-
-ANYTHING, FILE = 0, 1
-"""What a path is taken for, as commitgraph.h has it."""
-
-NOTHING, READ, FOLDER, UNOPENED, UNREAD, NO_MEMORY = range(6)
-"""What stands at a path, as commitgraph.h has it."""
 
 
 class _Standing:

@@ -9,6 +9,17 @@ pub const NO_FLAG: Flag = Flag { address: std::ptr::null(), kept: false };
 
 // What follows is made of `commitgraph.h` by `gate/declarations.py`.
 
+pub const ANYTHING: u32 = 0;
+pub const FILE: u32 = 1;
+pub const CHAIN_FOLDER: u32 = 2;
+pub const INFO_FOLDER: u32 = 3;
+pub const NOTHING: u32 = 0;
+pub const READ: u32 = 1;
+pub const FOLDER: u32 = 2;
+pub const UNOPENED: u32 = 3;
+pub const UNREAD: u32 = 4;
+pub const NO_MEMORY: u32 = 5;
+
 #[repr(C)]
 #[derive(Clone, Copy, Debug)]
 pub struct Graph {
