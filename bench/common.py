@@ -41,7 +41,7 @@ def print_load():
 
 def program(name="graphtool"):
     """The path of a proved program of this repository, built where a source is newer."""
-    return subprocess.check_output([os.path.join(TOP, "scripts", "program"), name], text=True).strip()
+    return subprocess.check_output([os.path.join(TOP, "building", "program"), name], text=True).strip()
 
 
 def sources(name):

@@ -5,7 +5,7 @@ usage: python3 bench/dropin.py [FOLDER]
 
 FOLDER keeps the files and the programs for further runs. The files are those of bench/lookup.py: a layer of a million commits, and a
 chain of ten layers of the same commits. The same program, bench/dropin/measure.rs, is built twice by `rustc -O`: with
-bindings/rust/gix-commitgraph, over the library that scripts/proving.py left in crates/commitgraph_c, and with
+bindings/rust/gix-commitgraph, over the library that building/proving.py left in crates/commitgraph_c, and with
 bench/dropin/original.rs, which maps the files and reads each answer at its place in them, as the original does. Both run in turn, and
 have to give the same sums.
 

@@ -3,7 +3,7 @@
 
 usage: python3 bench/edges.py [PROGRAM]
 
-PROGRAM is measured in place of the one that scripts/program gives. The files are one layer of so many
+PROGRAM is measured in place of the one that building/program gives. The files are one layer of so many
 commits, whose extra edge list has as many words. For `verify` all commits but the roots have all of
 them as parents. For `ancestor` each has the one before it as well, and the search goes from the last
 commit to a root that is not in the list: it visits all commits, and finds no walk. A line a file: its

@@ -5,7 +5,7 @@ usage: python3 bench/library.py [FOLDER]
 
 FOLDER keeps the files and the programs for further runs. The files and our programs are those of bench/lookup.py, and for
 queries those of bench/ancestor.py. The others are bench/library/measure.c, by `cc -O2`, and bench/library/measure.rs over
-bindings/rust, by `rustc -O`; both link the library that scripts/proving.py left in crates/commitgraph_c. All read the same files, in
+bindings/rust, by `rustc -O`; both link the library that building/proving.py left in crates/commitgraph_c. All read the same files, in
 turn, and have to give the same sums.
 
 A line a figure: the times through C and through Rust and ours, in nanoseconds an item, each the best of all runs; both

@@ -114,7 +114,7 @@ def beside_digest(folder, layer, stream):
 def matches_program(folder):
     """The path of the program in C, built over the library."""
     program = os.path.join(folder, "objects_matches")
-    library = subprocess.check_output([os.path.join(common.TOP, "scripts", "library")], text=True).strip()
+    library = subprocess.check_output([os.path.join(common.TOP, "building", "library")], text=True).strip()
     flags = ["-std=c11", "-D_GNU_SOURCE", "-O2", "-I" + os.path.join(common.TOP, "bindings", "c")]
     subprocess.check_call(["cc", *flags, os.path.join(common.sources("objects"), "matches.c"), library, "-o", program])
     return program

@@ -4,7 +4,7 @@
 usage: python3 bench/processes.py FOLDER [NAME=PROGRAM ..]
 
 FOLDER keeps the files for further runs; making them takes some minutes, and the largest has 1.7 GB.
-The program that scripts/program gives is measured beside each PROGRAM, as one of an older state of
+The program that building/program gives is measured beside each PROGRAM, as one of an older state of
 this repository, and beside bench/lookup/baseline.rs: `PROGRAM list`, with the file as its input,
 `PROGRAM verify PATH`, `PROGRAM distinct PATH` and `PROGRAM find PATH ID`, each where the program ends
 with 0. The programs take turns. A line a figure and a program: the least processor time and the least

@@ -12,7 +12,7 @@ import sys
 from itertools import accumulate
 
 TOP = os.path.dirname(os.path.dirname(os.path.abspath(__file__)))
-sys.path.insert(0, os.path.join(TOP, "scripts", "real_data"))
+sys.path.insert(0, os.path.join(TOP, "suites", "real_data"))
 
 from histories import repository, shapes
 

@@ -6,7 +6,7 @@ import subprocess
 import sys
 
 TOP = os.path.dirname(os.path.dirname(os.path.abspath(__file__)))
-sys.path.insert(0, os.path.join(TOP, "scripts", "real_data"))
+sys.path.insert(0, os.path.join(TOP, "suites", "real_data"))
 
 from histories import repository, shapes
 

@@ -59,7 +59,7 @@ extern "C" {
 CG_NODISCARD uint32_t cg_version(void);
 
 /* Each cause has one number, the same in all calls; cg_strerror (below) has a sentence for it, and cg_advice says what to do, as
- * docs/REFUSALS.md does. */
+ * docs/REFUSALS.md does. All three come from tables/refusals.tsv: gate/refusal_table.py writes them here. */
 enum cg_code {
     CG_OK = 0,
     CG_OUT_OF_MEMORY = 1,

@@ -13,7 +13,7 @@ Threads may share a graph: any number of them may ask it at a time, and a call t
 thread closes the graph. A graph is not copied or pickled.
 
 It calls libcommitgraph.so.1, which is looked for in the folder that COMMITGRAPH_LIB names; where that is not set, in this clone, where
-`scripts/library` makes it, and then where the system looks. The calls are proved, this module is not: test_commitgraph.py tests it.
+`building/library` makes it, and then where the system looks. The calls are proved, this module is not: test_commitgraph.py tests it.
 """
 
 import ctypes
@@ -39,6 +39,7 @@ INSTALLED = "libcommitgraph.so.1"
 class Code(enum.IntEnum):
     """The numbers of causes, as commitgraph.h has them."""
 
+    # gate/refusal_table.py writes them here, of tables/refusals.tsv.
     OK = 0
     OUT_OF_MEMORY = 1
     CLOSED_GRAPH = 2
@@ -226,6 +227,18 @@ def _alone(refusal: Exception) -> str:
     return refusal._happened if isinstance(refusal, Error) else str(refusal)
 
 
+# gate/declarations.py makes these numbers, structs and calls of commitgraph.h.
+
+ANYTHING = 0
+FILE = 1
+NOTHING = 0
+READ = 1
+FOLDER = 2
+UNOPENED = 3
+UNREAD = 4
+NO_MEMORY = 5
+
+
 class _Graph(ctypes.Structure):
     _fields_ = (("address", c_void_p), ("opened", c_bool))
 
@@ -246,15 +259,24 @@ class _PathError(ctypes.Structure):
     _fields_ = (("code", c_uint32), ("layer", c_uint64), ("length", c_uint64))
 
 
-class _Verdict(ctypes.Structure):
-    _fields_ = (
-        *((name, c_uint32) for name in ("code", "num_commits", "longest", "has_longest", "position", "other", "called")),
-        *((name, c_uint64) for name in ("layer", "index", "kinds")),
-    )
+class _Flag(ctypes.Structure):
+    _fields_ = (("address", c_void_p), ("kept", c_bool))
+
+
+class _Limit(ctypes.Structure):
+    _fields_ = (("visits", c_uint64), ("flag", _Flag))
 
 
 class _Layer(ctypes.Structure):
-    _fields_ = tuple((name, c_uint32) for name in ("first", "num_commits", "bases", "hash"))
+    _fields_ = (("first", c_uint32), ("num_commits", c_uint32), ("bases", c_uint32), ("hash", c_uint32))
+
+
+class _Lent(ctypes.Structure):
+    _fields_ = (("bytes", c_void_p), ("len", c_size_t))
+
+
+class _Answered(ctypes.Structure):
+    _fields_ = (("code", c_uint32), ("answered", c_uint64))
 
 
 class _Commit(ctypes.Structure):
@@ -265,16 +287,27 @@ class _ParentCount(ctypes.Structure):
     _fields_ = (("code", c_uint32), ("count", c_uint64))
 
 
+class _Verdict(ctypes.Structure):
+    _fields_ = (
+        ("code", c_uint32),
+        ("num_commits", c_uint32),
+        ("longest", c_uint32),
+        ("has_longest", c_uint32),
+        ("position", c_uint32),
+        ("other", c_uint32),
+        ("called", c_uint32),
+        ("layer", c_uint64),
+        ("index", c_uint64),
+        ("kinds", c_uint64),
+    )
+
+
 class _Leads(ctypes.Structure):
     _fields_ = (("code", c_uint32), ("found", c_bool))
 
 
 class _Bases(ctypes.Structure):
     _fields_ = (("code", c_uint32), ("ahead", c_uint32), ("behind", c_uint32), ("visits", c_uint64), ("length", c_uint64))
-
-
-class _Answered(ctypes.Structure):
-    _fields_ = (("code", c_uint32), ("answered", c_uint64))
 
 
 class _Two(ctypes.Structure):
@@ -287,7 +320,12 @@ class _Compared(ctypes.Structure):
 
 class _NewCommit(ctypes.Structure):
     _fields_ = (
-        *(pair for name in ("id", "tree", "parents") for pair in ((name, c_void_p), (name + "_len", c_size_t))),
+        ("id", c_void_p),
+        ("id_len", c_size_t),
+        ("tree", c_void_p),
+        ("tree_len", c_size_t),
+        ("parents", c_void_p),
+        ("parents_len", c_size_t),
         ("time", c_uint64),
     )
 
@@ -296,22 +334,14 @@ class _Bytes(ctypes.Structure):
     _fields_ = (("address", c_void_p), ("kept", c_bool))
 
 
-class _Lent(ctypes.Structure):
-    _fields_ = (("bytes", c_void_p), ("len", c_size_t))
-
-
-class _Flag(ctypes.Structure):
-    _fields_ = (("address", c_void_p), ("kept", c_bool))
-
-
-class _Limit(ctypes.Structure):
-    _fields_ = (("visits", c_uint64), ("flag", _Flag))
-
-
 class _WriteError(ctypes.Structure):
     _fields_ = (
-        *((name, c_uint32) for name in ("code", "position")),
-        *((name, c_uint64) for name in ("commit", "other", "layer", "expected")),
+        ("code", c_uint32),
+        ("position", c_uint32),
+        ("commit", c_uint64),
+        ("other", c_uint64),
+        ("layer", c_uint64),
+        ("expected", c_uint64),
     )
 
 
@@ -322,24 +352,24 @@ class _Line(ctypes.Structure):
 CALLS = {
     "cg_version": (c_uint32, ()),
     "cg_open": (_Error, (POINTER(_File), c_size_t, POINTER(_Graph))),
-    "cg_open_checked": (_Error, (POINTER(_File), c_size_t, c_bool, POINTER(_Verdict), c_void_p, c_size_t, POINTER(_Graph))),
     "cg_open_known": (
         _PathError,
         (c_void_p, c_size_t, c_uint32, POINTER(_Known), c_size_t, c_void_p, c_size_t, POINTER(_Graph)),
     ),
-    "cg_check_within": (c_uint32, (POINTER(_Graph), c_bool, _Limit, POINTER(_Verdict), c_void_p, c_size_t, POINTER(_Graph))),
-    "cg_close": (c_bool, (POINTER(_Graph),)),
+    "cg_open_checked": (_Error, (POINTER(_File), c_size_t, c_bool, POINTER(_Verdict), c_void_p, c_size_t, POINTER(_Graph))),
     "cg_flag_new": (c_uint32, (POINTER(_Flag),)),
     "cg_flag_raise": (c_bool, (_Flag,)),
     "cg_flag_free": (c_bool, (POINTER(_Flag),)),
+    "cg_check_within": (c_uint32, (POINTER(_Graph), c_bool, _Limit, POINTER(_Verdict), c_void_p, c_size_t, POINTER(_Graph))),
+    "cg_close": (c_bool, (POINTER(_Graph),)),
     "cg_num_commits": (c_uint32, (_Graph,)),
     "cg_id_len": (c_size_t, (_Graph,)),
     "cg_layer": (c_bool, (_Graph, c_uint64, POINTER(_Layer))),
     "cg_lookup": (c_uint32, (_Graph, c_void_p, c_size_t)),
     "cg_lookup_all": (c_uint64, (_Graph, c_void_p, c_size_t, c_size_t, c_void_p, c_size_t)),
     "cg_id_at": (c_size_t, (_Graph, c_uint32, c_void_p, c_size_t)),
-    "cg_ids_at": (_Answered, (_Graph, c_void_p, c_size_t, c_void_p, c_size_t)),
     "cg_tree_at": (c_size_t, (_Graph, c_uint32, c_void_p, c_size_t)),
+    "cg_ids_at": (_Answered, (_Graph, c_void_p, c_size_t, c_void_p, c_size_t)),
     "cg_commit_at": (c_bool, (_Graph, c_uint32, POINTER(_Commit))),
     "cg_parents": (_ParentCount, (_Graph, c_uint32, c_void_p, c_size_t)),
     "cg_is_ancestor_within": (_Leads, (_Graph, c_uint32, c_uint32, _Limit)),
@@ -387,10 +417,10 @@ def _load() -> ctypes.CDLL:
 
 def _how_to_install() -> str:
     """How the library comes to where it is looked for."""
-    script = (CLONE / "scripts/library").resolve()
-    build = "run " + (shlex.quote(str(script)) if script.exists() else "scripts/library in a clone of Nolavimure")
+    script = (CLONE / "building/library").resolve()
+    build = "run " + (shlex.quote(str(script)) if script.exists() else "building/library in a clone of Nolavimure")
     first = "unset COMMITGRAPH_LIB and " if os.environ.get("COMMITGRAPH_LIB") else ""
-    return f"{first}{build}, which proves and builds it; or after scripts/install --library PREFIX let COMMITGRAPH_LIB name the folder PREFIX/lib"
+    return f"{first}{build}, which proves and builds it; or after building/install --library PREFIX let COMMITGRAPH_LIB name the folder PREFIX/lib"
 
 
 _library = _load()
@@ -745,13 +775,6 @@ def chain_lines(text: bytes) -> Iterator[bytes]:
     while (line := _library.cg_chain_line(_at(text), len(text), start)).found:
         yield text[start : line.end]
         start = line.next
-
-
-ANYTHING, FILE = 0, 1
-"""What a path is taken for, as commitgraph.h has it."""
-
-NOTHING, READ, FOLDER, UNOPENED, UNREAD, NO_MEMORY = range(6)
-"""What stands at a path, as commitgraph.h has it."""
 
 
 class _Standing:

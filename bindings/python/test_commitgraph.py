@@ -322,7 +322,7 @@ class OverGit(unittest.TestCase):
         shutil.copy(commitgraph.__file__, self.folder.name)
         at = {**os.environ, "PYTHONPATH": self.folder.name, "LD_LIBRARY_PATH": ""}
         for named, words in (
-            ("", ["libcommitgraph.so.1: ", "what to do: run scripts/library in a clone", "scripts/install --library PREFIX"]),
+            ("", ["libcommitgraph.so.1: ", "what to do: run building/library in a clone", "building/install --library PREFIX"]),
             ("no/such/folder", ["no/such/folder/libcommitgraph.so: ", "unset COMMITGRAPH_LIB and run ", "name the folder PREFIX/lib"]),
         ):
             if not named and ctypes.util.find_library("commitgraph"):

@@ -1,5 +1,5 @@
 //! Links the library, `libcommitgraph.a`. It is looked for in the folders that `COMMITGRAPH_LIB` names, with a colon between
-//! them; where that is not set, in this clone, where `scripts/library` makes it, and then where `pkg-config` says.
+//! them; where that is not set, in this clone, where `building/library` makes it, and then where `pkg-config` says.
 use std::os::unix::process::parent_id;
 use std::path::{Path, PathBuf};
 use std::process::{exit, Command};
@@ -28,10 +28,10 @@ fn main() {
 /// Ends the build, since no library is in these folders, and elsewhere neither; and says what is to be done first.
 fn give_up(folders: &[PathBuf], elsewhere: &str, first: &str) -> ! {
     let places: Vec<_> = folders.iter().map(|folder| folder.join("libcommitgraph.a").display().to_string()).collect();
-    let script = clone().join("scripts/library");
-    let script = if script.is_file() { format!("'{}'", script.display()) } else { "scripts/library in a clone of Nolavimure".into() };
+    let script = clone().join("building/library");
+    let script = if script.is_file() { format!("'{}'", script.display()) } else { "building/library in a clone of Nolavimure".into() };
     eprintln!(
-        "there is no {}, and {elsewhere}; what to do: {first}run {script}, which proves and builds it; or after scripts/install \
+        "there is no {}, and {elsewhere}; what to do: {first}run {script}, which proves and builds it; or after building/install \
          --library PREFIX let COMMITGRAPH_LIB name the folder PREFIX/lib",
         places.join(", and no ")
     );
@@ -87,7 +87,7 @@ fn archive(folders: &[PathBuf], name: &str) -> Option<PathBuf> {
     folders.iter().map(|folder| folder.join(format!("lib{name}.a"))).find(|path| path.is_file())
 }
 
-/// Links the library that `scripts/install --library` has put where `pkg-config` looks.
+/// Links the library that `building/install --library` has put where `pkg-config` looks.
 fn link_installed() -> bool {
     println!("cargo:rerun-if-env-changed=PKG_CONFIG_PATH");
     let asked = Command::new("pkg-config").args(["--variable=libdir", "commitgraph"]).output();

@@ -1,13 +1,22 @@
-//! The numbers of causes, as `commitgraph.h` has them.
+//! The numbers of causes, as `commitgraph.h` has them: all of them, also those that this crate does not ask about.
+//! `gate/refusal_table.py` writes them here, of `tables/refusals.tsv`.
+
+#![allow(dead_code)]
 
 pub(crate) const OK: u32 = 0;
 pub(crate) const OUT_OF_MEMORY: u32 = 1;
+pub(crate) const CLOSED_GRAPH: u32 = 2;
+pub(crate) const NOT_CHECKED: u32 = 3;
 pub(crate) const NO_SUCH_POSITION: u32 = 4;
+pub(crate) const PATH_NOT_UTF8: u32 = 5;
 pub(crate) const NO_DATES: u32 = 6;
 pub(crate) const MORE_PARENTS: u32 = 7;
 pub(crate) const PATH_WANTED: u32 = 8;
+pub(crate) const NO_SUCH_LAYER: u32 = 9;
 pub(crate) const STOPPED: u32 = 10;
 pub(crate) const OPEN_NOTHING_FOUND: u32 = 21;
+pub(crate) const OPEN_NOT_OPENED: u32 = 22;
+pub(crate) const OPEN_READ_FAILED: u32 = 23;
 pub(crate) const OPEN_CHAIN_NOT_TEXT: u32 = 24;
 pub(crate) const FILE_TOO_SHORT: u32 = 101;
 pub(crate) const FILE_SIGNATURE: u32 = 102;

@@ -14,13 +14,13 @@ use std::path::{Path, PathBuf};
 #[derive(Clone, Copy, Debug, PartialEq, Eq)]
 pub enum Place {
     /// What stands there: a file, a folder with a chain, or an info folder.
-    Anything = 0,
+    Anything = sys::ANYTHING as isize,
     /// A file.
-    File = 1,
+    File = sys::FILE as isize,
     /// A folder with a chain.
-    ChainFolder = 2,
+    ChainFolder = sys::CHAIN_FOLDER as isize,
     /// An info folder: its file, or where that is not there or is refused, the chain in it; but not where memory ran out.
-    InfoFolder = 3,
+    InfoFolder = sys::INFO_FOLDER as isize,
 }
 
 /// The file of a layer.
@@ -268,12 +268,12 @@ impl Known {
     /// What the library is told of it.
     fn lent(&self) -> sys::Known {
         let (bytes, kind) = match &self.standing {
-            Standing::Nothing(_) => (&[][..], 0),
-            Standing::File(bytes) => (&bytes[..], 1),
-            Standing::Folder => (&[][..], 2),
-            Standing::NotOpened(_) => (&[][..], 3),
-            Standing::NotRead(_) => (&[][..], 4),
-            Standing::NoMemory => (&[][..], 5),
+            Standing::Nothing(_) => (&[][..], sys::NOTHING),
+            Standing::File(bytes) => (&bytes[..], sys::READ),
+            Standing::Folder => (&[][..], sys::FOLDER),
+            Standing::NotOpened(_) => (&[][..], sys::UNOPENED),
+            Standing::NotRead(_) => (&[][..], sys::UNREAD),
+            Standing::NoMemory => (&[][..], sys::NO_MEMORY),
         };
         sys::Known { path: self.path.as_ptr(), path_len: self.path.len(), bytes: bytes.as_ptr(), len: bytes.len(), kind }
     }

@@ -2,16 +2,33 @@
 
 use std::ffi::c_void;
 
+pub const CLOSED: Graph = Graph { address: std::ptr::null(), opened: false };
+pub const NOT_LENT: Lent = Lent { bytes: b"".as_ptr(), len: 0 };
+pub const NO_BYTES: Bytes = Bytes { address: std::ptr::null(), kept: false };
+pub const NO_FLAG: Flag = Flag { address: std::ptr::null(), kept: false };
+
+// What follows is made of `commitgraph.h` by `gate/declarations.py`.
+
+pub const ANYTHING: u32 = 0;
+pub const FILE: u32 = 1;
+pub const CHAIN_FOLDER: u32 = 2;
+pub const INFO_FOLDER: u32 = 3;
+pub const NOTHING: u32 = 0;
+pub const READ: u32 = 1;
+pub const FOLDER: u32 = 2;
+pub const UNOPENED: u32 = 3;
+pub const UNREAD: u32 = 4;
+pub const NO_MEMORY: u32 = 5;
+
 #[repr(C)]
-#[derive(Clone, Copy)]
+#[derive(Clone, Copy, Debug)]
 pub struct Graph {
     pub address: *const c_void,
     pub opened: bool,
 }
 
-pub const CLOSED: Graph = Graph { address: std::ptr::null(), opened: false };
-
 #[repr(C)]
+#[derive(Clone, Copy, Debug)]
 pub struct File {
     pub bytes: *const u8,
     pub len: usize,
@@ -20,14 +37,14 @@ pub struct File {
 }
 
 #[repr(C)]
-#[derive(Clone, Copy)]
+#[derive(Clone, Copy, Debug, Default)]
 pub struct Error {
     pub code: u32,
     pub layer: u64,
 }
 
 #[repr(C)]
-#[derive(Clone, Copy)]
+#[derive(Clone, Copy, Debug)]
 pub struct Known {
     pub path: *const u8,
     pub path_len: usize,
@@ -37,7 +54,7 @@ pub struct Known {
 }
 
 #[repr(C)]
-#[derive(Clone, Copy)]
+#[derive(Clone, Copy, Debug, Default)]
 pub struct PathError {
     pub code: u32,
     pub layer: u64,
@@ -45,7 +62,21 @@ pub struct PathError {
 }
 
 #[repr(C)]
-#[derive(Clone, Copy, Default)]
+#[derive(Clone, Copy, Debug)]
+pub struct Flag {
+    pub address: *const c_void,
+    pub kept: bool,
+}
+
+#[repr(C)]
+#[derive(Clone, Copy, Debug)]
+pub struct Limit {
+    pub visits: u64,
+    pub flag: Flag,
+}
+
+#[repr(C)]
+#[derive(Clone, Copy, Debug, Default)]
 pub struct Layer {
     pub first: u32,
     pub num_commits: u32,
@@ -54,26 +85,49 @@ pub struct Layer {
 }
 
 #[repr(C)]
-#[derive(Clone, Copy, Default)]
-pub struct LayerVerdict {
-    pub code: u32,
-    pub num_commits: u32,
-    pub min_generation: u32,
-    pub max_generation: u32,
-    pub max_parents: u32,
-    pub position: u32,
-    pub byte: u32,
+#[derive(Clone, Copy, Debug)]
+pub struct Lent {
+    pub bytes: *const u8,
+    pub len: usize,
 }
 
 #[repr(C)]
-#[derive(Clone, Copy, Default)]
+#[derive(Clone, Copy, Debug, Default)]
+pub struct Answered {
+    pub code: u32,
+    pub answered: u64,
+}
+
+#[repr(C)]
+#[derive(Clone, Copy, Debug, Default)]
 pub struct Commit {
     pub time: u64,
     pub generation: u32,
 }
 
 #[repr(C)]
-#[derive(Clone, Copy, Default)]
+#[derive(Clone, Copy, Debug, Default)]
+pub struct ParentCount {
+    pub code: u32,
+    pub count: u64,
+}
+
+#[repr(C)]
+#[derive(Clone, Copy, Debug, Default)]
+pub struct Parent {
+    pub code: u32,
+    pub position: u32,
+}
+
+#[repr(C)]
+#[derive(Clone, Copy, Debug, Default)]
+pub struct Block {
+    pub commits: u32,
+    pub length: u64,
+}
+
+#[repr(C)]
+#[derive(Clone, Copy, Debug, Default)]
 pub struct Verdict {
     pub code: u32,
     pub num_commits: u32,
@@ -88,14 +142,26 @@ pub struct Verdict {
 }
 
 #[repr(C)]
-#[derive(Clone, Copy, Default)]
+#[derive(Clone, Copy, Debug, Default)]
 pub struct Count {
     pub parents: u32,
     pub commits: u32,
 }
 
 #[repr(C)]
-#[derive(Clone, Copy)]
+#[derive(Clone, Copy, Debug, Default)]
+pub struct LayerVerdict {
+    pub code: u32,
+    pub num_commits: u32,
+    pub min_generation: u32,
+    pub max_generation: u32,
+    pub max_parents: u32,
+    pub position: u32,
+    pub byte: u32,
+}
+
+#[repr(C)]
+#[derive(Clone, Copy, Debug, Default)]
 pub struct Reached {
     pub code: u32,
     pub visits: u32,
@@ -103,59 +169,21 @@ pub struct Reached {
 }
 
 #[repr(C)]
-#[derive(Clone, Copy)]
-pub struct Lent {
-    pub bytes: *const u8,
-    pub len: usize,
-}
-
-pub const NOT_LENT: Lent = Lent { bytes: b"".as_ptr(), len: 0 };
-
-#[repr(C)]
-#[derive(Clone, Copy, Default)]
-pub struct ParentCount {
-    pub code: u32,
-    pub count: u64,
-}
-
-#[repr(C)]
-#[derive(Clone, Copy)]
-pub struct Parent {
-    pub code: u32,
-    pub position: u32,
-}
-
-#[repr(C)]
-#[derive(Clone, Copy)]
-pub struct Block {
-    pub commits: u32,
-    pub length: u64,
-}
-
-#[repr(C)]
-#[derive(Clone, Copy)]
-pub struct Matched {
-    pub code: u32,
-    pub parent: u64,
-}
-
-#[repr(C)]
-#[derive(Clone, Copy)]
-pub struct Line {
-    pub found: bool,
-    pub end: usize,
-    pub next: usize,
-}
-
-#[repr(C)]
-#[derive(Clone, Copy)]
+#[derive(Clone, Copy, Debug, Default)]
 pub struct Leads {
     pub code: u32,
     pub found: bool,
 }
 
 #[repr(C)]
-#[derive(Clone, Copy, Default)]
+#[derive(Clone, Copy, Debug, Default)]
+pub struct Pair {
+    pub ancestor: u32,
+    pub descendant: u32,
+}
+
+#[repr(C)]
+#[derive(Clone, Copy, Debug, Default)]
 pub struct Bases {
     pub code: u32,
     pub ahead: u32,
@@ -165,21 +193,22 @@ pub struct Bases {
 }
 
 #[repr(C)]
-#[derive(Clone, Copy)]
-pub struct Pair {
-    pub ancestor: u32,
-    pub descendant: u32,
+#[derive(Clone, Copy, Debug, Default)]
+pub struct Two {
+    pub first: u32,
+    pub other: u32,
 }
 
 #[repr(C)]
-#[derive(Clone, Copy)]
-pub struct Answered {
+#[derive(Clone, Copy, Debug, Default)]
+pub struct Compared {
     pub code: u32,
     pub answered: u64,
+    pub length: u64,
 }
 
 #[repr(C)]
-#[derive(Clone, Copy)]
+#[derive(Clone, Copy, Debug, Default)]
 pub struct Dates {
     pub code: u32,
     pub position: u32,
@@ -189,7 +218,7 @@ pub struct Dates {
 }
 
 #[repr(C)]
-#[derive(Clone, Copy)]
+#[derive(Clone, Copy, Debug, Default)]
 pub struct Probed {
     pub code: u32,
     pub position: u32,
@@ -199,22 +228,14 @@ pub struct Probed {
 }
 
 #[repr(C)]
-#[derive(Clone, Copy)]
-pub struct Two {
-    pub first: u32,
-    pub other: u32,
-}
-
-#[repr(C)]
-#[derive(Clone, Copy)]
-pub struct Compared {
+#[derive(Clone, Copy, Debug, Default)]
+pub struct Matched {
     pub code: u32,
-    pub answered: u64,
-    pub length: u64,
+    pub parent: u64,
 }
 
 #[repr(C)]
-#[derive(Clone, Copy)]
+#[derive(Clone, Copy, Debug)]
 pub struct NewCommit {
     pub id: *const u8,
     pub id_len: usize,
@@ -226,32 +247,14 @@ pub struct NewCommit {
 }
 
 #[repr(C)]
-#[derive(Clone, Copy)]
+#[derive(Clone, Copy, Debug)]
 pub struct Bytes {
     pub address: *const c_void,
     pub kept: bool,
 }
 
 #[repr(C)]
-#[derive(Clone, Copy, Debug)]
-pub struct Flag {
-    pub address: *const c_void,
-    pub kept: bool,
-}
-
-pub const NO_FLAG: Flag = Flag { address: std::ptr::null(), kept: false };
-
-#[repr(C)]
-#[derive(Clone, Copy)]
-pub struct Limit {
-    pub visits: u64,
-    pub flag: Flag,
-}
-
-pub const NO_BYTES: Bytes = Bytes { address: std::ptr::null(), kept: false };
-
-#[repr(C)]
-#[derive(Clone, Copy)]
+#[derive(Clone, Copy, Debug, Default)]
 pub struct WriteError {
     pub code: u32,
     pub position: u32,
@@ -261,19 +264,18 @@ pub struct WriteError {
     pub expected: u64,
 }
 
+#[repr(C)]
+#[derive(Clone, Copy, Debug, Default)]
+pub struct Line {
+    pub found: bool,
+    pub end: usize,
+    pub next: usize,
+}
+
 extern "C" {
     pub fn cg_version() -> u32;
     pub fn cg_open(files: *const File, count: usize, out: *mut Graph) -> Error;
     pub fn cg_open_lent(files: *const File, count: usize, out: *mut Graph) -> Error;
-    pub fn cg_open_checked(
-        files: *const File,
-        count: usize,
-        distinct_ids: bool,
-        verdict: *mut Verdict,
-        counts: *mut Count,
-        counts_len: usize,
-        out: *mut Graph,
-    ) -> Error;
     pub fn cg_open_known(
         path: *const u8,
         path_len: usize,
@@ -284,6 +286,15 @@ extern "C" {
         file_len: usize,
         out: *mut Graph,
     ) -> PathError;
+    pub fn cg_open_checked(
+        files: *const File,
+        count: usize,
+        distinct_ids: bool,
+        verdict: *mut Verdict,
+        counts: *mut Count,
+        counts_len: usize,
+        out: *mut Graph,
+    ) -> Error;
     pub fn cg_check(
         graph: *mut Graph,
         distinct_ids: bool,
@@ -292,6 +303,9 @@ extern "C" {
         counts_len: usize,
         out: *mut Graph,
     ) -> u32;
+    pub fn cg_flag_new(out: *mut Flag) -> u32;
+    pub fn cg_flag_raise(flag: Flag) -> bool;
+    pub fn cg_flag_free(flag: *mut Flag) -> bool;
     pub fn cg_check_within(
         graph: *mut Graph,
         distinct_ids: bool,
@@ -302,28 +316,25 @@ extern "C" {
         out: *mut Graph,
     ) -> u32;
     pub fn cg_close(graph: *mut Graph) -> bool;
-    pub fn cg_flag_new(out: *mut Flag) -> u32;
-    pub fn cg_flag_raise(flag: Flag) -> bool;
-    pub fn cg_flag_free(flag: *mut Flag) -> bool;
-    pub fn cg_num_layers(graph: Graph) -> u64;
-    pub fn cg_layer(graph: Graph, layer: u64, out: *mut Layer) -> bool;
-    pub fn cg_verify_layer(graph: Graph, layer: u64, out: *mut LayerVerdict) -> u32;
-    pub fn cg_layer_checksum(graph: Graph, layer: u64, out: *mut u8, len: usize) -> usize;
-    pub fn cg_base_id_at(graph: Graph, layer: u64, index: u64, out: *mut u8, len: usize) -> usize;
     pub fn cg_num_commits(graph: Graph) -> u32;
     pub fn cg_id_len(graph: Graph) -> usize;
+    pub fn cg_num_layers(graph: Graph) -> u64;
+    pub fn cg_layer(graph: Graph, layer: u64, out: *mut Layer) -> bool;
+    pub fn cg_layer_checksum(graph: Graph, layer: u64, out: *mut u8, len: usize) -> usize;
+    pub fn cg_base_id_at(graph: Graph, layer: u64, index: u64, out: *mut u8, len: usize) -> usize;
     pub fn cg_lookup(graph: Graph, id: *const u8, len: usize) -> u32;
+    pub fn cg_lookup_all(graph: Graph, ids: *const u8, ids_len: usize, id_len: usize, out: *mut u32, len: usize) -> u64;
     pub fn cg_id_at(graph: Graph, pos: u32, out: *mut u8, len: usize) -> usize;
     pub fn cg_tree_at(graph: Graph, pos: u32, out: *mut u8, len: usize) -> usize;
     pub fn cg_lend_id(graph: Graph, pos: u32, out: *mut Lent) -> bool;
     pub fn cg_lend_tree(graph: Graph, pos: u32, out: *mut Lent) -> bool;
+    pub fn cg_ids_at(graph: Graph, positions: *const u32, count: usize, out: *mut u8, len: usize) -> Answered;
     pub fn cg_commit_at(graph: Graph, pos: u32, out: *mut Commit) -> bool;
     pub fn cg_generation_at(graph: Graph, pos: u32) -> u32;
     pub fn cg_commits(graph: Graph, first: u32, out: *mut Commit, len: usize) -> u32;
     pub fn cg_parents(graph: Graph, pos: u32, out: *mut u32, len: usize) -> ParentCount;
     pub fn cg_first_parents(graph: Graph, pos: u32, out: *mut u32, len: usize) -> ParentCount;
     pub fn cg_first_parent(graph: Graph, pos: u32) -> Parent;
-    pub fn cg_matches(graph: Graph, pos: u32, contents: *const u8, len: usize) -> Matched;
     pub fn cg_parents_from(
         graph: Graph,
         first: u32,
@@ -332,14 +343,8 @@ extern "C" {
         out: *mut u32,
         len: usize,
     ) -> Block;
-    pub fn cg_chain_line(text: *const u8, len: usize, start: usize) -> Line;
-    pub fn cg_verify(
-        graph: Graph,
-        distinct_ids: bool,
-        out: *mut Verdict,
-        counts: *mut Count,
-        counts_len: usize,
-    ) -> u32;
+    pub fn cg_verify(graph: Graph, distinct_ids: bool, out: *mut Verdict, counts: *mut Count, counts_len: usize) -> u32;
+    pub fn cg_verify_layer(graph: Graph, layer: u64, out: *mut LayerVerdict) -> u32;
     pub fn cg_ancestor_walk(graph: Graph, from: u32, to: u32, out: *mut u32, len: usize) -> Reached;
     pub fn cg_ancestor_walk_within(
         graph: Graph,
@@ -352,16 +357,6 @@ extern "C" {
     pub fn cg_is_ancestor(graph: Graph, ancestor: u32, descendant: u32) -> Leads;
     pub fn cg_is_ancestor_within(graph: Graph, ancestor: u32, descendant: u32, limit: Limit) -> Leads;
     pub fn cg_are_ancestors(graph: Graph, pairs: *const Pair, count: usize, out: *mut u8, len: usize) -> Answered;
-    pub fn cg_corrected_dates(graph: Graph, out: *mut u64, len: usize) -> Dates;
-    pub fn cg_probe_path(
-        graph: Graph,
-        path: *const u8,
-        path_len: usize,
-        positions: *const u32,
-        count: usize,
-        out: *mut u8,
-        len: usize,
-    ) -> Probed;
     pub fn cg_merge_bases(
         graph: Graph,
         first: u32,
@@ -388,12 +383,22 @@ extern "C" {
         out: *mut u32,
         len: usize,
     ) -> Compared;
-    pub fn cg_lookup_all(graph: Graph, ids: *const u8, ids_len: usize, id_len: usize, out: *mut u32, len: usize) -> u64;
-    pub fn cg_ids_at(graph: Graph, positions: *const u32, count: usize, out: *mut u8, len: usize) -> Answered;
+    pub fn cg_corrected_dates(graph: Graph, out: *mut u64, len: usize) -> Dates;
+    pub fn cg_probe_path(
+        graph: Graph,
+        path: *const u8,
+        path_len: usize,
+        positions: *const u32,
+        count: usize,
+        out: *mut u8,
+        len: usize,
+    ) -> Probed;
+    pub fn cg_matches(graph: Graph, pos: u32, contents: *const u8, len: usize) -> Matched;
     pub fn cg_write(graph: Graph, commits: *const NewCommit, count: usize, out: *mut Bytes) -> WriteError;
     pub fn cg_bytes_copy(bytes: Bytes, start: u64, out: *mut u8, len: usize) -> u64;
     pub fn cg_lend_bytes(bytes: Bytes, out: *mut Lent) -> bool;
     pub fn cg_bytes_free(bytes: *mut Bytes) -> bool;
+    pub fn cg_chain_line(text: *const u8, len: usize, start: usize) -> Line;
 }
 
 /// The sizes and offsets of these structs, as `commitgraph.h` has them on a machine of 64 bits.
@@ -413,31 +418,32 @@ mod layout {
     laid_out!(Error, 16, code 0, layer 8);
     laid_out!(Known, 40, path 0, path_len 8, bytes 16, len 24, kind 32);
     laid_out!(PathError, 24, code 0, layer 8, length 16);
+    laid_out!(Flag, 16, address 0, kept 8);
+    laid_out!(Limit, 24, visits 0, flag 8);
     laid_out!(Layer, 16, first 0, num_commits 4, bases 8, hash 12);
-    laid_out!(LayerVerdict, 28, code 0, num_commits 4, min_generation 8, max_generation 12, max_parents 16);
-    laid_out!(LayerVerdict, 28, position 20, byte 24);
-    laid_out!(Commit, 16, time 0, generation 8);
     laid_out!(Lent, 16, bytes 0, len 8);
+    laid_out!(Answered, 16, code 0, answered 8);
+    laid_out!(Commit, 16, time 0, generation 8);
     laid_out!(ParentCount, 16, code 0, count 8);
     laid_out!(Parent, 8, code 0, position 4);
     laid_out!(Block, 16, commits 0, length 8);
-    laid_out!(Verdict, 56, code 0, num_commits 4, longest 8, has_longest 12, position 16, other 20, called 24);
-    laid_out!(Verdict, 56, layer 32, index 40, kinds 48);
+    laid_out!(Verdict, 56, code 0, num_commits 4, longest 8, has_longest 12, position 16);
+    laid_out!(Verdict, 56, other 20, called 24, layer 32, index 40, kinds 48);
     laid_out!(Count, 8, parents 0, commits 4);
+    laid_out!(LayerVerdict, 28, code 0, num_commits 4, min_generation 8, max_generation 12);
+    laid_out!(LayerVerdict, 28, max_parents 16, position 20, byte 24);
     laid_out!(Reached, 16, code 0, visits 4, length 8);
     laid_out!(Leads, 8, code 0, found 4);
-    laid_out!(Bases, 32, code 0, ahead 4, behind 8, visits 16, length 24);
     laid_out!(Pair, 8, ancestor 0, descendant 4);
-    laid_out!(Answered, 16, code 0, answered 8);
+    laid_out!(Bases, 32, code 0, ahead 4, behind 8, visits 16, length 24);
+    laid_out!(Two, 8, first 0, other 4);
+    laid_out!(Compared, 24, code 0, answered 8, length 16);
     laid_out!(Dates, 32, code 0, position 4, layer 8, expected 16, length 24);
     laid_out!(Probed, 32, code 0, position 4, number 8, layer 16, answered 24);
     laid_out!(Matched, 16, code 0, parent 8);
-    laid_out!(Line, 24, found 0, end 8, next 16);
-    laid_out!(Two, 8, first 0, other 4);
-    laid_out!(Compared, 24, code 0, answered 8, length 16);
-    laid_out!(NewCommit, 56, id 0, id_len 8, tree 16, tree_len 24, parents 32, parents_len 40, time 48);
+    laid_out!(NewCommit, 56, id 0, id_len 8, tree 16, tree_len 24);
+    laid_out!(NewCommit, 56, parents 32, parents_len 40, time 48);
     laid_out!(Bytes, 16, address 0, kept 8);
-    laid_out!(Flag, 16, address 0, kept 8);
-    laid_out!(Limit, 24, visits 0, flag 8);
     laid_out!(WriteError, 40, code 0, position 4, commit 8, other 16, layer 24, expected 32);
+    laid_out!(Line, 24, found 0, end 8, next 16);
 }

@@ -1,0 +1,27 @@
+"""`python3 suites/wrappers` checks the commands `git cgraph`, `graphtool` and `historytool` around their programs, their installation and
+releases.
+
+It runs copies of the scripts, with programs and an `rt` that these checks make. The last line is
+`N passed, M failed`.
+"""
+
+import os
+import sys
+
+SUITES = os.path.dirname(os.path.dirname(os.path.abspath(__file__)))
+sys.path[:0] = [SUITES, *(os.path.join(os.path.dirname(SUITES), room) for room in ("gate", "building"))]
+
+from results import Results
+from wrappers import commits, completions, coverage, installs, json_answers, packages, pasted, questions, releases, repositories, sentences, tools, writes
+
+
+def main():
+    """Runs the checks, and answers the exit status."""
+    results = Results()
+    for part in (tools, sentences, questions, repositories, commits, coverage, writes, pasted, json_answers, installs, completions, packages, releases):
+        part.check_all(results)
+    return results.finish()
+
+
+if __name__ == "__main__":
+    sys.exit(main())
