@@ -1,5 +1,5 @@
 //! What C holds: an open graph, a flag, and bytes that a call has made; how a graph is opened, read
-//! and checked; and the numbers by which the library tells causes. `scripts/proving.py` makes a
+//! and checked; and the numbers by which the library tells causes. `building/proving.py` makes a
 //! static library of the functions `cg_*` here and in the crates above.
 //!
 //! C holds an opened graph as a value of an address and a flag, which `cg_open` makes and

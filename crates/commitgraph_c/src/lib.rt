@@ -1,7 +1,7 @@
 //! The questions that C asks of an open graph: by the reader of `gix_commitgraph`, the queries of
 //! `graph_history`, the filters of `graph_chunks`, and the comparison of `graph_objects`.
 //!
-//! `scripts/proving.py` makes a static library of these functions and of those in `c_opening` and
+//! `building/proving.py` makes a static library of these functions and of those in `c_opening` and
 //! `c_writing`, which exports each with its contract. Its header is `bindings/c/commitgraph.h`.
 #![tactic(auto)]
 

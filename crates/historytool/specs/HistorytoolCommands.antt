@@ -1,4 +1,4 @@
--- The commands of `historytool`: which words ask for each, and what it may write. The table scripts/commands lists the words:
+-- The commands of `historytool`: which words ask for each, and what it may write. The table tables/commands lists the words:
 -- is-ancestor PATH HEX HEX, ids PATH [FROM TO] and so on; beside these --help or -h, and --version.
 use Rattle.std.specs.Prelude.{◌≡◌, ◌≢◌, ◌⊎◌, ℕ, List, [], ◌∷◌, Some, None, codes, map, string_bytes, Result, Option}
 use Rattle.std.specs.Prelude.{Bool, true, false, option_map}

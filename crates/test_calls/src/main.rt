@@ -1,8 +1,8 @@
 //! Makes one call that no command makes: `test_calls CALL`, or `test_calls filters LAYER..`.
 //!
-//! `scripts/refused_memory` refuses each allocation of a call in turn: it lays out the files that
+//! `suites/refused_memory` refuses each allocation of a call in turn: it lays out the files that
 //! the call needs, and counts allocations from the line on that is written right before it. What
-//! was answered is written after it, without any further allocation. `scripts/real_data` asks the
+//! was answered is written after it, without any further allocation. `suites/real_data` asks the
 //! filters.
 #![tactic(auto)]
 
