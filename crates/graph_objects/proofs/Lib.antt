@@ -6,6 +6,8 @@ pub mod TakingLemmas
 pub mod StreamLemmas
 pub mod CommitLineLemmas
 pub mod OnceLemmas
+pub mod SameCommitLemmas
+pub mod SameGraphLemmas
 pub mod DigestLemmas
 pub mod MatchLemmas
 pub mod RightStreamLemmas

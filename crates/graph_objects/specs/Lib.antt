@@ -4,5 +4,6 @@ pub mod ParentLines
 pub mod Reading
 pub mod BatchEntry
 pub mod Stream
+pub mod OneGraph
 pub mod Taking
 pub mod CommitWalks

@@ -6,10 +6,13 @@ ghost use Rattle.graph_walks.specs.Walks.{Reaches};
 ghost use Rattle.graph_format.specs.Layer.{Layer, IsOpened};
 ghost use Rattle.graph_format.specs.StoredHistory.{history_of};
 ghost use Rattle.gix_commitgraph.specs.Distinct.{AreDistinct};
-ghost use Rattle.gix_commitgraph.specs.Graph.{total};
+ghost use Rattle.gix_commitgraph.specs.Graph.{graph_ids, total};
+ghost use Rattle.gix_commitgraph.specs.Sound.{Sound};
 ghost use Rattle.graph_objects.specs.CommitWalks.{CommitsLead};
 ghost use Rattle.graph_objects.specs.Matching.{MatchesAt};
 ghost use Rattle.graph_objects.specs.Mismatches.{MismatchesAt};
+ghost use Rattle.graph_objects.specs.OneGraph.{HaveNoTwoContents, HaveTheSameCommits};
+ghost use Rattle.graph_objects.specs.OneGraph.{IsOneGraph};
 ghost use Rattle.graph_objects.specs.Stream.{graph_id_at, HaveIdsOfBytes, IsStreamOf};
 ghost use Rattle.graph_objects.specs.Stream.{IsStreamRefusal};
 ghost use Rattle.graph_objects.specs.declared.Mismatch.{Mismatch};
@@ -56,4 +59,35 @@ pub fn walks_of_a_graph_that_matches_are_those_along_parent_lines()
         → p < total layers → q < total layers
         → Reaches (history_of layers) p q
         ↔ CommitsLead kind stream.contents (graph_id_at layers p) (graph_id_at layers q) }
+{}
+
+/// Two graphs that match one stream have the same commits: as many, and each with the same id, root
+/// tree and parents, by their ids. Nothing is asked of the digests.
+pub fn one_stream_makes_one_history()
+    ensures { (one other : List Layer) (kind : Kind) (bytes : List ℕ)
+        → All (λ layer. layer.kind ≡ kind) one → All (λ layer. layer.kind ≡ kind) other
+        → IsStreamOf one 0 (total one) bytes → IsStreamOf other 0 (total other) bytes
+        → HaveTheSameCommits one other }
+{}
+
+/// Two right graphs that match one stream are one graph, if no id stands at two positions: they have
+/// the same ids, the same parents by position, and the same generation numbers.
+pub fn one_stream_makes_one_graph()
+    ensures { (one other : List Layer) (kind : Kind) (bytes : List ℕ) → All IsOpened one
+        → All IsOpened other → All (λ layer. layer.kind ≡ kind) one
+        → All (λ layer. layer.kind ≡ kind) other → AreDistinct one → Sound one → Sound other
+        → IsStreamOf one 0 (total one) bytes → IsStreamOf other 0 (total other) bytes
+        → IsOneGraph one other }
+{}
+
+/// Two graphs with the same ids that match a stream each have the same commits, if none of these ids
+/// has two contents: the history of a graph that matches is that of the objects with its ids.
+pub fn ids_make_one_history()
+    ensures { (one other : List Layer) (kind : Kind) (bytes more : List ℕ)
+        → All (λ layer. layer.kind ≡ kind) one → All (λ layer. layer.kind ≡ kind) other
+        → (first : IsStreamOf one 0 (total one) bytes)
+        → (second : IsStreamOf other 0 (total other) more)
+        → graph_ids one ≡ graph_ids other
+        → HaveNoTwoContents kind first.contents second.contents
+        → HaveTheSameCommits one other }
 {}
