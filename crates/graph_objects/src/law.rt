@@ -70,8 +70,8 @@ pub fn one_stream_makes_one_history()
         → HaveTheSameCommits one other }
 {}
 
-/// Two right graphs that match one stream are one graph, if no id stands at two positions: they have
-/// the same ids, the same parents by position, and the same generation numbers.
+/// Two right graphs that match one stream are one graph, if no id stands at two positions: they
+/// have the same ids, the same parents by position, and the same generation numbers.
 pub fn one_stream_makes_one_graph()
     ensures { (one other : List Layer) (kind : Kind) (bytes : List ℕ) → All IsOpened one
         → All IsOpened other → All (λ layer. layer.kind ≡ kind) one
@@ -80,8 +80,8 @@ pub fn one_stream_makes_one_graph()
         → IsOneGraph one other }
 {}
 
-/// Two graphs with the same ids that match a stream each have the same commits, if none of these ids
-/// has two contents: the history of a graph that matches is that of the objects with its ids.
+/// Two graphs with the same ids that match a stream each have the same commits, if none of these
+/// ids has two contents: the history of a graph that matches is that of the objects with its ids.
 pub fn ids_make_one_history()
     ensures { (one other : List Layer) (kind : Kind) (bytes more : List ℕ)
         → All (λ layer. layer.kind ≡ kind) one → All (λ layer. layer.kind ≡ kind) other
