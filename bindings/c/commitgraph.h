@@ -267,11 +267,12 @@ typedef struct cg_path_error { uint32_t code; uint64_t layer, length; } cg_path_
  * stands alone. So who looks below a folder of their own may ask for the empty path, and the folder's need not be UTF-8. Of two that
  * are known of one path the first counts. What is known of paths that nothing asks for is not looked at: since the layers before a
  * wanted one are opened at each call, a caller does well to add all layers of a chain at once (cg_chain_line).
- * cg_open_path of commitgraph_path.h does all of that, by the C library's own files.
+ * cg_open_path of commitgraph_path.h does all of that, by the C library's own files, for any path.
  *
  * On CG_OK *out is the graph of the bytes that were handed in. It is the caller's to close, and no check has seen it: see cg_check.
- * The bytes are copied. A file that is to be the only layer, and is none, is refused before that. On another code *out is left as it
- * was, and `file` gets the path that is told, as much of it as there is room for. */
+ * The bytes are copied, those of a file that several lines of a chain name once. A file that is to be the only layer, and is none,
+ * is refused before that. On another code *out is left as it was, and `file` gets the path that is told, as much of it as there is
+ * room for. */
 CG_NODISCARD cg_path_error cg_open_known(const char *path, size_t path_len, uint32_t what, const cg_known *known, size_t count,
                                          char *file, size_t file_len, cg_graph *out) CG_NONNULL((8));
 

@@ -332,7 +332,7 @@ func within(ctx context.Context, visits uint64, call func(C.cg_limit) C.uint32_t
 	return &Error{Code: uint32(code)}
 }
 
-// paths are what is known of paths, which all begin at the root.
+// paths are what is known of paths, which all begin at the root. A layer that several lines of a chain name stands there for each.
 type paths struct {
 	root, asked string
 	known       []*standing
@@ -346,9 +346,13 @@ type standing struct {
 }
 
 func (p *paths) free() {
+	freed := map[*standing]bool{}
 	for _, it := range p.known {
-		C.free(unsafe.Pointer(it.raw.path))
-		C.free(unsafe.Pointer(it.raw.bytes))
+		if !freed[it] {
+			C.free(unsafe.Pointer(it.raw.path))
+			C.free(unsafe.Pointer(it.raw.bytes))
+			freed[it] = true
+		}
 	}
 }
 
@@ -477,27 +481,32 @@ func (p *paths) ask(path string, place C.uint32_t, room int) (C.cg_path_error, s
 }
 
 // learn looks what stands at a path; and, so that no layer is opened once for each one above it, where a chain file names layers.
+// Each file is read once, however many lines name it.
 func (p *paths) learn(path string) {
-	text := p.look(path)
+	found, text := p.look(path)
+	p.known = append(p.known, found)
 	folder := strings.TrimSuffix(path, chainFile)
 	if folder == path {
 		return
 	}
+	layers := map[string]*standing{}
 	for _, line := range chainLines(text) {
-		p.look(folder + "graph-" + line + ".graph")
+		if layers[line] == nil {
+			layers[line], _ = p.look(folder + "graph-" + line + ".graph")
+		}
+		p.known = append(p.known, layers[line])
 	}
 }
 
-// look looks what stands at a path, and answers the bytes of a file.
-func (p *paths) look(path string) []byte {
+// look looks what stands at a path, and answers the bytes of a file besides.
+func (p *paths) look(path string) (*standing, []byte) {
 	bytes, kind, err := read(p.whole(path))
 	if errors.Is(err, syscall.ENOMEM) {
 		kind = C.CG_NO_MEMORY
 	}
 	raw := C.cg_known{path: (*C.char)(C.CBytes([]byte(path))), path_len: C.size_t(len(path)), kind: kind}
 	raw.bytes, raw.len = (*C.uint8_t)(C.CBytes(bytes)), C.size_t(len(bytes))
-	p.known = append(p.known, &standing{path, raw, err})
-	return bytes
+	return &standing{path, raw, err}, bytes
 }
 
 func read(path string) ([]byte, C.uint32_t, error) {

@@ -283,6 +283,11 @@ func TestPaths(t *testing.T) {
 	_, err = Open(chain, false)
 	r.refused(err, 24, 0, 0)
 	r.says(err, named+": a line of the chain file is not UTF-8: line 2, counted from 0", "")
+	write(named, []byte(strings.Repeat(strings.Fields(string(lines))[0]+"\n", 300)))
+	_, err = Open(chain, false)
+	r.refused(err, 301, 0, 0)
+	r.says(err, named+": ", "")
+	write(named, append(lines, "\xff\n"...))
 	below := filepath.Join(r.at, "\xff")
 	if err := os.Rename(chain, below); err != nil {
 		t.Fatal(err)

@@ -839,12 +839,16 @@ def _opened(root: bytes, asked: bytes, place: int, known: list[_Standing]) -> _G
 
 
 def _learnt(root: bytes, path: bytes) -> Iterator[_Standing]:
-    """What stands at a path; and, so that no layer is opened once for each one above it, where a chain file names layers."""
+    """What stands at a path; and, so that no layer is opened once for each one above it, where a chain file names layers. Each file is
+    read once, however many lines name it."""
     found = _Standing(root, path)
     yield found
     folder = path.removesuffix(b"commit-graph-chain")
+    layers: dict[bytes, _Standing] = {}
     for name in chain_lines(found.data) if folder != path else ():
-        yield _Standing(root, folder + b"graph-" + name + b".graph")
+        if name not in layers:
+            layers[name] = _Standing(root, folder + b"graph-" + name + b".graph")
+        yield layers[name]
 
 
 def _refusal(told: _PathError, root: bytes, path: bytes, known: list[_Standing]) -> Exception:

@@ -188,6 +188,9 @@ class OverGit(unittest.TestCase):
         (chain / "commit-graph-chain").write_bytes(lines + b"\xff\n")
         self.refused(Code.OPEN_CHAIN_NOT_TEXT, lambda: commitgraph.open(chain), layer=2)
         self.says(lambda: commitgraph.open(chain), f"{chain}/commit-graph-chain: a line ", ": line 2, counted from 0; ")
+        (chain / "commit-graph-chain").write_bytes((lines.split()[0] + b"\n") * 300)
+        self.refused(Code.CHECK_TOO_MANY_FILES, lambda: commitgraph.open(chain), path=str(chain / "commit-graph-chain"))
+        (chain / "commit-graph-chain").write_bytes(lines + b"\xff\n")
         named = os.fsencode(self.folder.name) + b"/\xff"
         os.rename(self.info, named)
         (pathlib.Path(os.fsdecode(named)) / "commit-graph").unlink()

@@ -710,8 +710,33 @@ def opened_path(compiler, archive, scratch, graphs):
             told = done.stderr.startswith(f"{path}: {why}\nwhat to do: ")
             expect(f"{compiler}: open_path, {why}", done.returncode == 1 and told, done)
             shutil.rmtree(layers, ignore_errors=True)
+        opened_other_bytes(compiler, program, graph, folder)
     done = run(program, "no/such/file")
     expect(f"{compiler}: open_path, none", done.stderr.startswith("no/such/file: no file or folder is at the path\nwhat to do: "), done)
+
+
+def opened_other_bytes(compiler, program, graph, folder):
+    """The same below a folder whose name is no UTF-8, and at such a name: a file, a chain, an info folder, and what is told of them."""
+    root, data = os.fsencode(folder) + b"/\xff", graph.read_bytes()
+    name = data[-32 if data[5] == 2 else -20 :].hex().encode()
+    chain_of = root + b"/commit-graphs"
+    os.makedirs(chain_of)
+    layer = chain_of + b"/graph-" + name + b".graph"
+    for path, text in ((layer, data), (chain_of + b"/commit-graph-chain", name + b"\n"), (root + b"/\xfe", data)):
+        pathlib.Path(os.fsdecode(path)).write_bytes(text)
+    for path in (root, root + b"/", chain_of, layer, root + b"/\xfe"):
+        done = run(program, os.fsdecode(path))
+        expect(f"{compiler}: open_path {path}", (done.returncode, done.stdout) == (0, "11 commits, layers: 1\n"), done)
+    wrong = layer.replace(name, b"0" * len(name))
+    os.rename(layer, wrong)
+    pathlib.Path(os.fsdecode(root + b"/\xfe")).write_bytes(data[:100])
+    why = "the file has fewer than 1100 bytes: often it is truncated"
+    refused = [(root, layer, "a file is not there or may not be read"), (wrong, wrong, "a file is named `graph-X.graph`, and X is not")]
+    refused += [(root + b"/\xfe", root + b"/\xfe", why), (root + b"/none", root + b"/none", "no file or folder is at the path")]
+    for path, told, why in refused:
+        done = run(program, os.fsdecode(path), errors="surrogateescape")
+        said = os.fsencode(done.stderr).startswith(told + b": " + why.encode())
+        expect(f"{compiler}: open_path {path}, {why}", done.returncode == 1 and said, done)
 
 
 def refused_example(compiler, program, data, kind):

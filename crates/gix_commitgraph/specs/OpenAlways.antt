@@ -1,5 +1,5 @@
 -- What each opener answers, whatever stands in the folder: from which files its graph is read, and with which errors.
-use Rattle.std.specs.Prelude.{◌≡◌, ◌<◌, ◌⊎◌, ℕ, List, [], ◌∷◌, All, map, ⊤}
+use Rattle.std.specs.Prelude.{◌≡◌, ◌<◌, ◌≤◌, ◌+◌, ◌⊎◌, ℕ, List, [], ◌∷◌, All, map, ⊤}
 use Rattle.graph_format.specs.Layer.{Layer}
 use Rattle.gix_commitgraph.specs.GraphLaw.{IsRefusal}
 use Rattle.graph_layer.specs.LayerOpening.{IsLayerError}
@@ -52,9 +52,9 @@ abbrev pub IsLineError : ℕ → OpenError → Type 0
 IsLineError i (ChainNotText line) = line ≡ i
 IsLineError i error = IsLayerError i error
 
--- of opening the layers that so many lines of a chain name: those of one of the lines
-abbrev pub IsErrorOfLines : ℕ → OpenError → Type 0
-IsErrorOfLines count error = (i : ℕ) × (i < count) × IsLineError i error
+-- of opening the layers that so many lines of a chain name, from line first on: those of one of the lines
+abbrev pub IsErrorOfLines : ℕ → ℕ → OpenError → Type 0
+IsErrorOfLines first count error = (i : ℕ) × (first ≤ i) × (i < first + count) × IsLineError i error
 
 -- of making a graph of layers
 abbrev pub IsErrorOfLayers : List Layer → OpenError → Type 0

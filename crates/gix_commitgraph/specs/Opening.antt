@@ -35,9 +35,13 @@ file_opened tree path = and_then (layer_at tree 0 path) (λ layer. graph_of_laye
 abbrev pub layer_of_line : Tree → List ℕ → ℕ → List ℕ → Result Layer OpenError
 layer_of_line tree folder i line = if is_utf8 line then layer_at tree i (layer_path folder line) else Err (ChainNotText i)
 
--- the layers that the lines of a chain name, the lowest first
+-- the layers that lines of a chain name, of which the first is line i
+abbrev pub layers_from : Tree → List ℕ → ℕ → List (List ℕ) → Result (List Layer) OpenError
+layers_from tree folder i names = all_values (map (λ p. layer_of_line tree folder p.0 p.1) (enumerate_from i names))
+
+-- those of all its lines, the lowest first
 abbrev pub layers_of_lines : Tree → List ℕ → List (List ℕ) → Result (List Layer) OpenError
-layers_of_lines tree folder names = all_values (map (λ p. layer_of_line tree folder p.0 p.1) (enumerate_from 0 names))
+layers_of_lines tree folder names = layers_from tree folder 0 names
 
 -- a chain folder has the layers that its chain file names, line by line
 abbrev pub chain_opened : Tree → List ℕ → Result (List Layer) OpenError

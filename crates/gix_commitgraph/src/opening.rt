@@ -24,7 +24,7 @@ pub mod path;
 use crate::file::File;
 use crate::graph::Graph;
 use chain::has_chain;
-pub use chain::open_chain_dir_in;
+pub use chain::{open_chain_dir_in, open_lines, read_chain, text_of};
 pub use file::open_file_in;
 use graph_folder::folder::Folder;
 pub use graph_layer::opening::OpenError;

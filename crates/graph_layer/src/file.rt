@@ -17,12 +17,19 @@ use graph_format::layout::Layout;
 use graph_format::records::Records;
 use std::fmt;
 use std::marker::Model;
+use std::sync::Arc;
 
 /// One layer of a commit-graph: the bytes of a file that has the written format, what its records
 /// and its extra edge list say, and the path that came with them. A contract sees it as the decoded
 /// layer.
 #[derive(Drop)]
 pub struct File {
+    shared: Arc<Shared>,
+}
+
+/// What a layer keeps, once for all that share it.
+#[derive(Drop)]
+struct Shared {
     // Owned, or lent for ever. With a `&'static [u8]` here each signature with a `File` would name
     // `'static`, and no proof is made of one that also has a closure with a lifetime in its bound.
     bytes: Bytes,
@@ -40,7 +47,8 @@ impl Model for File {
 
     ghost use Rattle.graph_layer.specs.FileState.{IsFileState};
 
-    ghost view = { λ a. decoded_layer a.bytes (string_bytes a.path) };
+    ghost view = { λ a. let shared = a.shared.value in
+        decoded_layer shared.bytes (string_bytes shared.path) };
 
     ghost invariant = { IsFileState };
 }

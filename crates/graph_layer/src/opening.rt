@@ -13,7 +13,7 @@ use crate::file::File;
 pub use error::OpenError;
 use error::refused_layer;
 use graph_folder::folder::{Disk, Folder};
-use std::alloc::Global;
+use std::alloc::{AllocError, Global};
 use std::rt::Files;
 
 impl File {
@@ -55,6 +55,14 @@ pub fn open_layer<T: Folder>(
 {
     let bytes = read_file(alloc, folder, path.as_str())?;
     new_layer(alloc, layer, bytes, path)
+}
+
+/// The same layer once more: nothing is copied, and both share all that is kept. `AllocError` comes
+/// only where 2^63 share it already.
+pub fn share_layer(file: &File) -> Result<File, AllocError>
+    ensures { IfOk result (λ shared. shared ≡ file.now) }
+{
+    file.share()
 }
 
 /// The bytes of the file at the path.

@@ -1,13 +1,12 @@
 -- What comes of opening a path anew beside a graph that stands.
-use Rattle.std.specs.Prelude.{◌≡◌, ℕ, List, [], ◌++◌, Option, Some, None, Result, Ok, Err, Vec, map, ⊤}
-use Rattle.std.specs.List.{enumerate_from}
+use Rattle.std.specs.Prelude.{◌≡◌, ℕ, List, [], ◌++◌, Option, Some, None, Result, Ok, Err, Vec, ⊤}
 use Rattle.graph_folder.specs.Tree.{Tree}
 use Rattle.graph_format.specs.Layer.{Layer}
-use Rattle.graph_layer.specs.OpenAnswer.{IsAsExpected, all_values, and_then, failures_after_opening, result_map}
+use Rattle.graph_layer.specs.OpenAnswer.{IsAsExpected, and_then, failures_after_opening, result_map}
 use Rattle.graph_layer.specs.declared.opening.error.OpenError.{OpenError}
 use Rattle.graph_layer.specs.declared.opening.error.OpenError.TheVariants.{OutOfMemory}
 use Rattle.gix_commitgraph.specs.Graph.{IsGraph, total}
-use Rattle.gix_commitgraph.specs.Opening.{chain_opened, graph_of_layers, layer_of_line}
+use Rattle.gix_commitgraph.specs.Opening.{chain_opened, graph_of_layers, layers_from}
 use Rattle.gix_commitgraph.specs.Sound.{Sound}
 use Rattle.graph_ancestors.specs.RefusedGraph.{MayRefuseGraph}
 use Rattle.graph_commands.specs.OpenerAnswer.{OpensAs}
@@ -49,10 +48,6 @@ PutsAbove before above after (Err _) = ⊥
 -- a device failed, or memory ran out
 abbrev pub IsDeviceOrMemory : OpenError → Type 0
 IsDeviceOrMemory error = IsAsExpected {A = List Layer} (Err error) (Ok [])
-
--- the layers that lines name, of which the first is line i
-abbrev pub layers_from : Tree → List ℕ → ℕ → List (List ℕ) → Result (List Layer) OpenError
-layers_from tree folder i names = all_values (map (λ p. layer_of_line tree folder p.0 p.1) (enumerate_from i names))
 
 -- some layers, and then those of lines
 abbrev pub layers_with : List Layer → Tree → List ℕ → ℕ → List (List ℕ) → Result (List Layer) OpenError

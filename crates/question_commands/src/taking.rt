@@ -1,31 +1,31 @@
 //! The graph at a path, opened anew beside one that stands.
 
 ghost use Rattle.std.specs.Prelude.{◌≡◌, All, IfErr, IfOk, IfSome, IsSomeAnd, IsTrue, MatchOption};
-ghost use Rattle.std.specs.Prelude.{Ok, is_some, length, true, ℕ};
+ghost use Rattle.std.specs.Prelude.{Ok, length, true, ℕ};
 ghost use Rattle.std.specs.Option.{ForSome};
 ghost use Rattle.std.specs.Str.{is_utf8};
 ghost use Rattle.std.specs.Str.Lines.{lines};
 ghost use Rattle.graph_format.specs.Layer.{IsOpened};
 ghost use Rattle.graph_commands.specs.OpenerAnswer.{MayOpen, MayOpenBy};
 ghost use Rattle.graph_history.specs.RightGraph.{plain_options};
-ghost use Rattle.graph_layer.specs.LayerOpening.{bytes_at};
-ghost use Rattle.graph_layer.specs.OpenAnswer.{IsAsExpected, failures_after_opening, result_map};
+ghost use Rattle.graph_layer.specs.OpenAnswer.{failures_after_opening};
 ghost use Rattle.gix_commitgraph.specs.Opening.{InfoOpens, chain_opened, layer_of_line};
-ghost use Rattle.gix_commitgraph.specs.Paths.{chain_path, layer_path};
+ghost use Rattle.gix_commitgraph.specs.Opening.{layers_from};
+ghost use Rattle.gix_commitgraph.specs.Paths.{layer_path};
 ghost use Rattle.question_commands.specs.TakenAnew.{IsDeviceOrMemory, IsThisAnswer, OpensAbove};
-ghost use Rattle.question_commands.specs.TakenAnew.{OpensChain, PutsAbove, Takes, layers_from};
+ghost use Rattle.question_commands.specs.TakenAnew.{OpensChain, PutsAbove, Takes};
 ghost use Rattle.question_commands.specs.TakenAnew.{layers_with, lines_opened};
 
-use gix_commitgraph::opening::path::{chain_path, info_chain_path, info_file_path, layer_path};
+use gix_commitgraph::opening::path::{info_chain_path, info_file_path, layer_path};
 use gix_commitgraph::opening::{
-    OpenError, Standing, is_settled, open_chain_dir_in, open_file_in, open_in, stands_at,
+    OpenError, Standing, is_settled, open_chain_dir_in, open_file_in, open_in, open_lines,
+    read_chain, stands_at, text_of,
 };
 use gix_commitgraph::{File, Graph, GraphError};
 use graph_commands::refusal::Refusal;
 use graph_folder::chain::Lines;
 use graph_folder::folder::{Folder, ReadError};
 use graph_history::{CheckedGraph, PushError};
-use graph_layer::opening::{open_layer, read_file};
 use std::alloc::{AllocError, Global};
 
 /// Opens the graph at the path anew, and puts it in the place of the one that stands, unless it is
@@ -168,19 +168,6 @@ fn open_above<T: Folder>(
     open_lines_above(alloc, folder, path, text.as_slice(), standing)
 }
 
-/// The bytes of the chain file in the folder.
-fn read_chain<T: Folder>(alloc: Global, folder: &mut T, path: &str) -> Result<Vec<u8>, OpenError>
-    ensures opens { ForSome (T.tree folder.old)
-        (λ tree. IsAsExpected (result_map (λ text. text.items) result)
-        (bytes_at tree (chain_path path.now))) }
-    ensures tree { T.tree folder.new ≡ T.tree folder.old }
-    ensures failures { T.failure_count folder.new
-        ≡ failures_after_opening result (T.failure_count folder.old) }
-{
-    let chain = chain_path(alloc, path)?;
-    read_file(alloc, folder, chain.as_str())
-}
-
 /// The layers that the lines of a chain name above some that stand, if these are the lowest. Names
 /// are compared before any bytes.
 fn open_lines_above<T: Folder>(
@@ -204,7 +191,7 @@ fn open_lines_above<T: Folder>(
     if !are_lowest(alloc, folder, path, &mut lines, standing)? {
         return Ok(None);
     }
-    Ok(Some(open_rest(alloc, folder, path, standing, lines)?))
+    Ok(Some(open_lines(alloc, folder, path, standing, lines)?))
 }
 
 /// Whether the first lines of a chain name these layers.
@@ -293,56 +280,4 @@ fn is_name_of(alloc: Global, path: &str, line: &[u8], file: &File) -> Result<boo
     };
     let at = layer_path(alloc, path, name)?;
     Ok(at.as_str() == file.path())
-}
-
-/// The layers that the lines name which come after those of the layers that stand.
-fn open_rest<T: Folder>(
-    alloc: Global,
-    folder: &mut T,
-    path: &str,
-    standing: &[File],
-    lines: Lines<'_>,
-) -> Result<Vec<File>, OpenError>
-    ensures opens { ForSome (T.tree folder.old) (λ tree.
-        IsAsExpected (result_map (λ files. files.items) result)
-        (layers_from tree path.now (length standing.now) lines.entry)) }
-    ensures tree { T.tree folder.new ≡ T.tree folder.old }
-    ensures failures { T.failure_count folder.new
-        ≡ failures_after_opening result (T.failure_count folder.old) }
-{
-    let mut files = Vec::new(alloc);
-    for line in lines {
-        let layer = standing.len() + files.len();
-        files.push(open_line(alloc, folder, path, layer, line)?)?;
-    }
-    Ok(files)
-}
-
-/// The layer that a line of a chain names.
-fn open_line<T: Folder>(
-    alloc: Global,
-    folder: &mut T,
-    path: &str,
-    layer: usize,
-    line: &[u8],
-) -> Result<File, OpenError>
-    ensures opens { ForSome (T.tree folder.old) (λ tree.
-        IsAsExpected result (layer_of_line tree path.now layer line.now)) }
-    ensures tree { T.tree folder.new ≡ T.tree folder.old }
-    ensures failures { T.failure_count folder.new
-        ≡ failures_after_opening result (T.failure_count folder.old) }
-{
-    let Some(name) = text_of(line) else {
-        return Err(OpenError::ChainNotText { line: layer });
-    };
-    let path = layer_path(alloc, path, name)?;
-    open_layer(alloc, folder, layer, path)
-}
-
-/// The bytes as text, if they are UTF-8.
-fn text_of(bytes: &[u8]) -> Option<&str>
-    ensures variant { is_some result ≡ is_utf8 bytes.now }
-    ensures value { IfSome result (λ text. text.now ≡ bytes.now) }
-{
-    str::from_utf8(bytes).ok()
 }

@@ -10,7 +10,8 @@ use std::process::Abort;
 /// does and so on, each with the number of failures that are counted then.
 type Failing = (Opener, &'static str, &'static [(Answer, u64)]);
 
-/// A file is read once; a chain file is read before the files of its three layers.
+/// A file is read once, also one that three lines name; a chain file is read before the files of
+/// its layers.
 const READS: &[Failing] = &[
     (
         Opener::File,
@@ -42,6 +43,16 @@ const READS: &[Failing] = &[
             (Err(OpenError::Device), 1),
             (Err(OpenError::Device), 1),
             (Ok(7), 0),
+        ],
+    ),
+    (
+        Opener::Chain,
+        "repeated",
+        &[
+            (Err(OpenError::Device), 1),
+            (Err(OpenError::Device), 1),
+            (Err(OpenError::Device), 1),
+            (Ok(12), 0),
         ],
     ),
 ];

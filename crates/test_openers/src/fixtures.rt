@@ -89,13 +89,19 @@ const THIRD_LAYER: &[Layer] = &[(
     &[(0x22, &[4], 4), (0x44, &[], 1)],
 )];
 
-/// The lines of a chain of the first two layers, and of all three.
+/// The lines of a chain of the first two layers, of all three, and of the first two by turns.
 pub const TWO_LINES: &[u8] = b"d4acf176695c236bbec4d0a2f3ceab09f5436e96\n\
     efa7039cace7373e71879fba4d83bb0fd1b7225f\n";
 
 const THREE_LINES: &[u8] = b"d4acf176695c236bbec4d0a2f3ceab09f5436e96\n\
     efa7039cace7373e71879fba4d83bb0fd1b7225f\n\
     74ba8302038f56a86f95fad4f6344032e1fee5e2\n";
+
+const REPEATED_LINES: &[u8] = b"d4acf176695c236bbec4d0a2f3ceab09f5436e96\n\
+    efa7039cace7373e71879fba4d83bb0fd1b7225f\n\
+    d4acf176695c236bbec4d0a2f3ceab09f5436e96\n\
+    efa7039cace7373e71879fba4d83bb0fd1b7225f\n\
+    d4acf176695c236bbec4d0a2f3ceab09f5436e96\n";
 
 /// The ids that texts spell.
 fn ids(rt: &impl Abort, alloc: Global, texts: &[&str]) -> Vec<ObjectId> {
@@ -152,10 +158,11 @@ fn put_layers(rt: &impl Abort, alloc: Global, memory: &mut Memory, folder: &str,
     }
 }
 
-/// The chain folders of three layers, one after another: one that is opened by its own path, and
+/// The chain folders of three layers, one after another: two that are opened by their own path, and
 /// those of three info folders.
 const CHAIN_FOLDERS: &[&str] = &[
     "chain",
+    "repeated",
     "chained/commit-graphs",
     "damaged/commit-graphs",
     "good/commit-graphs",
@@ -164,6 +171,7 @@ const CHAIN_FOLDERS: &[&str] = &[
 /// The chain files of these folders.
 const CHAIN_FILES: &[(&str, &[u8])] = &[
     ("chain/commit-graph-chain", THREE_LINES),
+    ("repeated/commit-graph-chain", REPEATED_LINES),
     ("chained/commit-graphs/commit-graph-chain", THREE_LINES),
     ("damaged/commit-graphs/commit-graph-chain", THREE_LINES),
     ("good/commit-graphs/commit-graph-chain", THREE_LINES),
@@ -173,9 +181,10 @@ const CHAIN_FILES: &[(&str, &[u8])] = &[
 const OTHER_FOLDERS: &[&str] = &["chained", "damaged", "good", "bare"];
 
 /// A folder in memory with a file of four commits at `file`; a folder `chain` with a chain of three
-/// layers, which have seven commits in all; and info folders with such a chain: `chained` has
-/// nothing beside it, `damaged` a file of 1099 bytes, and `good` a file of four commits. Nothing
-/// stands in the folder `bare`.
+/// layers, which have seven commits in all; a folder `repeated`, whose chain file names the lower
+/// two of them by turns; and info folders with the chain of `chain`: `chained` has nothing beside
+/// it, `damaged` a file of 1099 bytes, and `good` a file of four commits. Nothing stands in the
+/// folder `bare`.
 pub fn graphs(rt: &impl Abort, alloc: Global) -> Memory {
     let mut memory = Memory::new(alloc);
     let diamond = layer(rt, alloc, &[], DIAMOND);

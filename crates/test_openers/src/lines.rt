@@ -74,6 +74,16 @@ const CHAINS: &[Chain] = &[
         &["c/graph-bb.graph", "c/graph-aa.graph"],
         &[1, 3],
     ),
+    (
+        b"aa\nbb\naa\naa\r\n",
+        &[
+            "c/graph-aa.graph",
+            "c/graph-bb.graph",
+            "c/graph-aa.graph",
+            "c/graph-aa.graph",
+        ],
+        &[3, 1, 3, 3],
+    ),
 ];
 
 /// Whether a graph has layers with these paths, the lowest first.
@@ -126,6 +136,15 @@ const REFUSED: &[Refused] = &[
             error: FileError::TooSmall,
         }),
     ),
+    // A line that was read before is no fault, and counts.
+    (
+        b"aa\naa\nshort\naa\n",
+        Err(OpenError::Layer {
+            layer: 2,
+            error: FileError::TooSmall,
+        }),
+    ),
+    (b"aa\naa\n\xff\n", Err(OpenError::ChainNotText { line: 2 })),
     (b"aa\nmissing\n", Err(OpenError::NotOpened)),
     // The refusal of an earlier line is told.
     (b"missing\nshort\n\xff\n", Err(OpenError::NotOpened)),

@@ -4,8 +4,11 @@ What an answer has to be is made from the plan of the file alone.
 """
 
 import os
+import resource
+from functools import partial
 
 from checks.base_checks import ANSWER as COMPARED
+from checks.program import processor_seconds
 from checks.runs import check_runs
 from damage import large
 from damage.large import BLOCK, FORK, KIND, LINE_END, MERGE, TOPIC, TOPIC_END, TREE, Large
@@ -16,6 +19,17 @@ from expected.walks import ANSWER as WALKED
 OTHERS = 100
 """So many others `merge-base` is asked for at once; the last of them alone decides the answer."""
 
+OFTEN, MORE_OFTEN = 800, 64_000
+"""How many lines of a chain file name one file."""
+
+FEW = 8
+"""The bytes of so many of the files have room in the memory that is given."""
+
+MOST_SECONDS = 2.0
+"""A chain of many lines takes a tenth of that."""
+
+TOO_MANY_LAYERS = "refused verify 1\n"
+
 
 def check_all(programs, results, folder):
     """The checks, whose files stand in a folder of their own."""
@@ -25,6 +39,43 @@ def check_all(programs, results, folder):
     check_runs(results, "a file of %d commits, each command" % plan.count, list(right_runs(programs, plan, path)))
     runs = [run for number, fault in enumerate(large.faults(plan)) for run in fault_runs(programs, plan, fault, path, number)]
     check_runs(results, "a file of %d commits, each fault in its last tenth" % plan.count, runs)
+    check_named_often(programs, results, plan, os.path.join(folder, "often"))
+    check_named_more_often(programs, results, os.path.join(folder, "more-often"))
+
+
+def check_named_often(programs, results, plan, folder):
+    """A chain file that names one large file on each line. Memory for a few such files is enough."""
+    lay_out_named(folder, plan.content, OFTEN)
+    few = {"preexec_fn": partial(resource.setrlimit, resource.RLIMIT_AS, (FEW * len(plan.content),) * 2)}
+    program, histories = programs
+    ids = plan.hex_of(1), plan.hex_of(0)
+    for name, run in (
+        ("verify", lambda: program.verify(folder, **few)),
+        ("distinct", lambda: program.distinct(folder, **few)),
+        ("check", lambda: histories.check(folder, **few)),
+        ("is-ancestor", lambda: histories.is_ancestor(folder, *ids, **few)),
+    ):
+        title = "a file of %d commits that is %d layers, %s with little memory" % (plan.count, OFTEN, name)
+        results.check(title, judge.exactly(1, TOO_MANY_LAYERS, "", run()))
+
+
+def check_named_more_often(programs, results, folder):
+    """A chain file of many lines that name one small file: the time grows with the lines, and no faster."""
+    lay_out_named(folder, Large(BLOCK).content, MORE_OFTEN)
+    for name, run in (("verify", programs[0].verify), ("check", programs[1].check)):
+        before = processor_seconds()
+        complaint = judge.exactly(1, TOO_MANY_LAYERS, "", run(folder))
+        took = processor_seconds() - before
+        title = "a file of %d commits that is %d layers, %s" % (BLOCK, MORE_OFTEN, name)
+        results.check(title, complaint or (None if took < MOST_SECONDS else "%.1f seconds" % took))
+
+
+def lay_out_named(folder, content, count):
+    """Writes a chain folder with one file, which so many lines name."""
+    os.mkdir(folder)
+    for name, text in (("graph-a.graph", content), ("commit-graph-chain", b"a\n" * count)):
+        with open(os.path.join(folder, name), "wb") as file:
+            file.write(text)
 
 
 def right_runs(programs, plan, path):

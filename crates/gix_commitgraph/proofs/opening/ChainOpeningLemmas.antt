@@ -1,15 +1,19 @@
 -- The layers of a chain, line by line.
-use Rattle.std.proofs.Common.{◌≡◌, ℕ, ◌+◌, List, [], ◌∷◌, ◌++◌, Result, Ok, Err, map, refl, sym, ap, ◌∙◌, append_assoc}
-use Rattle.std.specs.List.{enumerate_from}
+use Rattle.std.proofs.Common.{◌≡◌, ℕ, ◌+◌, List, [], ◌∷◌, ◌++◌, Result, Ok, Err, All, refl, sym, ap, subst, ◌∙◌, append_assoc}
+use Rattle.std.specs.Prelude.{Bool, true, false, if◌then◌else◌}
+use Rattle.std.specs.Str.{is_utf8}
+use Rattle.std.proofs.lemmas.List.Elements.{All-append, All-cons, All-nil}
 use Rattle.graph_folder.specs.Tree.{Tree}
-use Rattle.graph_layer.specs.OpenAnswer.{and_then, result_map, all_values}
+use Rattle.graph_format.specs.Opened.{layer_of}
+use Rattle.graph_format.specs.declared.error.FileError.{FileError}
+use Rattle.graph_layer.specs.LayerOpening.{bytes_at, layer_at, layer_of_bytes}
+use Rattle.graph_layer.specs.OpenAnswer.{and_then, result_map, result_map_err}
+use Rattle.graph_layer.specs.OpenRefusals.{layer_refused}
 use Rattle.graph_format.specs.Layer.{Layer}
-use Rattle.gix_commitgraph.specs.Opening.{layer_of_line}
+use Rattle.gix_commitgraph.specs.Opening.{layer_of_line, layers_from}
+use Rattle.gix_commitgraph.specs.Paths.{layer_path}
 use Rattle.graph_layer.specs.declared.opening.error.OpenError.{OpenError}
-
--- the layers that lines name, of which the first is line i
-abbrev pub layers_from : Tree → List ℕ → ℕ → List (List ℕ) → Result (List Layer) OpenError
-layers_from tree folder i names = all_values (map (λ p. layer_of_line tree folder p.0 p.1) (enumerate_from i names))
+use Rattle.graph_layer.specs.declared.opening.error.OpenError.TheVariants.{ChainNotText}
 
 -- the layers so far, and then those of the lines that are left
 abbrev pub layers_with : List Layer → Tree → List ℕ → ℕ → List (List ℕ) → Result (List Layer) OpenError
@@ -37,3 +41,48 @@ pub layers_with-next : (tree : Tree) (folder : List ℕ) (layers more : List Lay
     → layers_with layers tree folder i left ≡ layers_with more tree folder next lines
 layers_with-next tree folder layers more i next line lines left layer names is pushed counted =
     rw (names, pushed, counted) (next-layer tree folder layers i line lines layer is)
+
+-- a layer is what stands at its path, whichever layer that is to be
+abbrev pub IsRead : Tree → Layer → Type 0
+IsRead tree layer = (i : ℕ) → Ok layer ≡ layer_at tree i layer.path
+
+module _ (layer : Layer) (i j : ℕ) where
+  accepted : (path : List ℕ) (answer : Result Layer FileError) → Ok layer ≡ result_map_err (layer_refused i) answer
+      → Ok layer ≡ result_map_err (layer_refused j) answer
+  accepted path (Ok x) is = is
+  accepted path (Err e) is = let not : Ok layer ≡ Err (layer_refused i e) = is in cc
+
+  of_bytes : (path : List ℕ) (answer : Result (List ℕ) OpenError)
+      → Ok layer ≡ and_then answer (λ bytes. layer_of_bytes i bytes path)
+      → Ok layer ≡ and_then answer (λ bytes. layer_of_bytes j bytes path)
+  of_bytes path (Ok bytes) is = accepted path (layer_of bytes path) is
+  of_bytes path (Err e) is = let not : Ok layer ≡ Err e = is in cc
+
+  at_text : (b : Bool) (tree : Tree) (path : List ℕ)
+      → Ok layer ≡ (if b then layer_at tree i path else Err (ChainNotText i)) → Ok layer ≡ layer_at tree i path
+  at_text true tree path is = is
+  at_text false tree path is = let not : Ok layer ≡ Err (ChainNotText i) = is in cc
+
+-- the layer that a line names was read
+pub read-from_line : (tree : Tree) (folder line : List ℕ) (i : ℕ) (layer : Layer) → Ok layer ≡ layer_of_line tree folder i line
+    → layer.path ≡ layer_path folder line → IsRead tree layer
+read-from_line tree folder line i layer is named j =
+    let path = layer_path folder line in
+    let there : Ok layer ≡ layer_at tree j path = of_bytes layer i j path (bytes_at tree path)
+    (at_text layer i j (is_utf8 line) tree path is) in
+    subst (λ (at : List ℕ). Ok layer ≡ layer_at tree j at) (sym named) there
+
+-- a layer that was read is what each line names that names its path
+pub line-from_read : (tree : Tree) (folder line : List ℕ) (i : ℕ) (layer : Layer) → IsRead tree layer → is_utf8 line ≡ true
+    → layer.path ≡ layer_path folder line → Ok layer ≡ layer_of_line tree folder i line
+line-from_read tree folder line i layer read text named =
+    let path = layer_path folder line in
+    subst (λ (at : List ℕ). Ok layer ≡ layer_at tree i at) named (read i)
+    ∙ sym (ap (λ (b : Bool). if b then layer_at tree i path else Err (ChainNotText i)) text)
+
+-- one more layer that was read
+pub read-pushed : (tree : Tree) (layers more : List Layer) (layer : Layer) → All (IsRead tree) layers → IsRead tree layer
+    → more ≡ layers ++ layer ∷ [] → All (IsRead tree) more
+read-pushed tree layers more layer before is pushed =
+    let P : Layer → Type 0 = IsRead tree in
+    subst (All P) (sym pushed) (All-append P layers (layer ∷ []) before (All-cons P layer [] is (All-nil P)))

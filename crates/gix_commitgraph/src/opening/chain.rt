@@ -1,16 +1,16 @@
 //! The opener of a chain folder.
 
-ghost use Rattle.std.specs.Prelude.{◌≡◌, IfOk, IfErr, IfSome, MatchResult, is_some, length};
+ghost use Rattle.std.specs.Prelude.{◌≡◌, Contains, IfOk, IfErr, IfSome, MatchResult, Ok, is_some};
+ghost use Rattle.std.specs.Prelude.{length, ℕ};
 ghost use Rattle.std.specs.Option.{ForSome};
 ghost use Rattle.std.specs.Str.{is_utf8};
-ghost use Rattle.std.specs.Str.Lines.{lines};
 ghost use Rattle.graph_folder.specs.Tree.{is_file};
 ghost use Rattle.gix_commitgraph.specs.Graph.{IsGraph};
 ghost use Rattle.gix_commitgraph.specs.OpenAlways.{IsFromChain, IsFolderError, IsLineError};
 ghost use Rattle.gix_commitgraph.specs.OpenAlways.{IsErrorOfLines};
-ghost use Rattle.graph_layer.specs.LayerOpening.{IsReadError, bytes_at};
+ghost use Rattle.graph_layer.specs.LayerOpening.{IsReadError, bytes_at, layer_at};
 ghost use Rattle.graph_layer.specs.OpenAnswer.{IsAsExpected, failures_after_opening, result_map};
-ghost use Rattle.gix_commitgraph.specs.Opening.{layer_of_line, layers_of_lines, chain_opened};
+ghost use Rattle.gix_commitgraph.specs.Opening.{layer_of_line, layers_from, chain_opened};
 ghost use Rattle.graph_layer.specs.OpenRefusals.{OutOfMemoryStandsAlone};
 ghost use Rattle.gix_commitgraph.specs.Paths.{chain_path, layer_path};
 
@@ -20,8 +20,9 @@ use crate::opening::path::{chain_path, layer_path};
 use crate::opening::{OpenError, new_graph};
 use graph_folder::chain::Lines;
 use graph_folder::folder::Folder;
-use graph_layer::opening::{open_layer, read_file};
+use graph_layer::opening::{open_layer, read_file, share_layer};
 use std::alloc::{AllocError, Global};
+use std::collections::BTreeMap;
 
 /// Opens the chain folder at the path: the graph of the layers that the lines of its file
 /// `commit-graph-chain` name, the lowest first. The line L names the file `graph-L.graph` in the
@@ -57,7 +58,7 @@ pub fn open_chain_dir_in<T: Folder>(
     ensures memory { IfErr result OutOfMemoryStandsAlone }
 {
     let text = read_chain(alloc, folder, path)?;
-    let files = open_layers(alloc, folder, path, text.as_slice())?;
+    let files = open_lines(alloc, folder, path, &[], Lines::new(text.as_slice()))?;
     new_graph(alloc, files)
 }
 
@@ -76,8 +77,13 @@ pub(super) fn has_chain<T: Folder>(
     folder.is_file(alloc, chain.as_str())
 }
 
-/// The bytes of the chain file in the folder.
-fn read_chain<T: Folder>(alloc: Global, folder: &mut T, path: &str) -> Result<Vec<u8>, OpenError>
+/// The bytes of the chain file in the folder at the path. The errors are those of its read:
+/// `NotOpened`, `Device` and `OutOfMemory`.
+pub fn read_chain<T: Folder>(
+    alloc: Global,
+    folder: &mut T,
+    path: &str,
+) -> Result<Vec<u8>, OpenError>
     ensures opens { ForSome (T.tree folder.old)
         (λ tree. IsAsExpected (result_map (λ text. text.items) result)
         (bytes_at tree (chain_path path.now))) }
@@ -91,39 +97,64 @@ fn read_chain<T: Folder>(alloc: Global, folder: &mut T, path: &str) -> Result<Ve
     read_file(alloc, folder, chain.as_str())
 }
 
-/// The layers that the lines of a chain name, in order.
-fn open_layers<T: Folder>(
+/// The layers that these lines of a chain name, in order. Those below them count the lines that
+/// came before.
+///
+/// Each path is read once: lines that name the same file share one layer.
+///
+/// # Errors
+///
+/// Of the first line that has one: `ChainNotText`, and those of opening its file as a layer.
+pub fn open_lines<T: Folder>(
     alloc: Global,
     folder: &mut T,
     path: &str,
-    text: &[u8],
+    below: &[File],
+    lines: Lines<'_>,
 ) -> Result<Vec<File>, OpenError>
     ensures opens { ForSome (T.tree folder.old)
         (λ tree. IsAsExpected (result_map (λ files. files.items) result)
-        (layers_of_lines tree path.now (lines text.now))) }
+        (layers_from tree path.now (length below.now) lines.entry)) }
     ensures tree { T.tree folder.new ≡ T.tree folder.old }
     ensures failures { T.failure_count folder.new
         ≡ failures_after_opening result (T.failure_count folder.old) }
     ensures from { MatchResult result (λ files. IsFromChain path.now files.items)
-        (IsErrorOfLines (length (lines text.now))) }
+        (IsErrorOfLines (length below.now) (length lines.entry)) }
     ensures memory { IfErr result OutOfMemoryStandsAlone }
 {
     let mut files = Vec::new(alloc);
-    for line in Lines::new(text) {
-        let layer = files.len();
-        files.push(open_line(alloc, folder, path, layer, line)?)?;
+    let mut places = BTreeMap::new(alloc);
+    for line in lines {
+        let place = places.get(line).copied();
+        if place.is_none() {
+            places.insert(line, files.len())?;
+        }
+        let layer = below.len() + files.len();
+        let known = at_place(&files, place);
+        let file = open_line(alloc, folder, path, layer, line, known)?;
+        files.push(file)?;
     }
     Ok(files)
 }
 
-/// The layer that a line of a chain names.
+/// The layer at a place, if there is one.
+fn at_place(files: &[File], place: Option<usize>) -> Option<&File>
+    ensures { IfSome result (λ file. Contains files.now file.now) }
+{
+    files.get(place?)
+}
+
+/// The layer that a line of a chain names. It is this one that is known, if that has its path.
 fn open_line<T: Folder>(
     alloc: Global,
     folder: &mut T,
     path: &str,
     layer: usize,
     line: &[u8],
+    known: Option<&File>,
 ) -> Result<File, OpenError>
+    requires known { ForSome (T.tree folder.old) (λ tree. IfSome known (λ file.
+        (i : ℕ) → Ok file.now ≡ layer_at tree i file.now.path)) }
     ensures opens { ForSome (T.tree folder.old) (λ tree.
         IsAsExpected result (layer_of_line tree path.now layer line.now)) }
     ensures tree { T.tree folder.new ≡ T.tree folder.old }
@@ -137,13 +168,16 @@ fn open_line<T: Folder>(
         return Err(OpenError::ChainNotText { line: layer });
     };
     let path = layer_path(alloc, path, name)?;
-    open_layer(alloc, folder, layer, path)
+    match known {
+        Some(file) if file.path() == path.as_str() => Ok(share_layer(file)?),
+        _ => open_layer(alloc, folder, layer, path),
+    }
 }
 
-/// The bytes as text, if they are UTF-8.
-fn text_of(bytes: &[u8]) -> Option<&str>
-    ensures variant { is_some result ≡ is_utf8 bytes.now }
-    ensures value { IfSome result (λ text. text.now ≡ bytes.now) }
+/// A line of a chain as text, if it is UTF-8.
+pub fn text_of(line: &[u8]) -> Option<&str>
+    ensures variant { is_some result ≡ is_utf8 line.now }
+    ensures value { IfSome result (λ text. text.now ≡ line.now) }
 {
-    str::from_utf8(bytes).ok()
+    str::from_utf8(line).ok()
 }

@@ -1,15 +1,16 @@
 //! Accessors of a layer, and iterators over its ids, its base ids and its commits.
 
 ghost use Rattle.std.specs.Prelude.{◌≡◌, ◌+◌, ◌<◌, ◌≤◌, length, map, slice_index, slice_range};
-ghost use Rattle.std.specs.Prelude.{slice_get, Some, IfSome, option_map, bytes_eq};
+ghost use Rattle.std.specs.Prelude.{slice_get, Some, IfSome, option_map, bytes_eq, string_bytes};
 ghost use Rattle.gix_hash_core.specs.Kind.{id_len};
 ghost use Rattle.gix_hash_core.specs.Oid.{oid_bytes};
 ghost use Rattle.graph_format.specs.Format.{words, commits_of, chunk_of};
 ghost use Rattle.graph_format.specs.DecodedRecords.{stored_parents};
-ghost use Rattle.graph_format.specs.Layer.{IsLayer, record_at, bytes_of};
+ghost use Rattle.graph_format.specs.Layer.{IsLayer, record_at, bytes_of, decoded_layer};
+ghost use Rattle.graph_format.specs.Layout.{IsLayout};
 ghost use Rattle.graph_layer.specs.Commit.{commit_layer, commit_pos};
 
-use crate::file::{Commit, File, Position};
+use crate::file::{Commit, File, Position, Shared};
 use gix_hash_core::{Kind, oid};
 use graph_format::chunks::{record_len, start_of};
 use graph_format::layout::find_chunk;
@@ -32,14 +33,14 @@ impl File {
         ensures bases { result ≡ length self.now.bases }
         ensures byte { result ≡ slice_index (bytes_of self.now) 7 }
     {
-        self.layout.base_count
+        self.shared.layout.base_count
     }
 
     /// The kind of all ids in the file: byte 5 of the section "HEADER".
     pub fn object_hash(&self) -> Kind
         ensures { result ≡ self.now.kind }
     {
-        self.layout.kind
+        self.shared.layout.kind
     }
 
     /// The number of commits: the last number of the section "OID Fanout".
@@ -51,21 +52,21 @@ impl File {
         // The file was opened, so its bytes are a file of this layer.
         ensures layer { IsLayer (bytes_of self.now) self.now.path self.now }
     {
-        self.layout.commits
+        self.shared().layout.commits
     }
 
     /// The path that the file was opened with.
     pub fn path(&self) -> &str
         ensures { result.now ≡ self.now.path }
     {
-        &self.path
+        self.shared.path.as_str()
     }
 
     /// The bytes of the file.
     pub fn bytes(&self) -> &[u8]
         ensures { result.now ≡ bytes_of self.now }
     {
-        self.bytes.as_slice()
+        self.shared.bytes.as_slice()
     }
 
     /// The checksum as it is stored after the last chunk: the section "TRAILER". Whether it is the
@@ -73,8 +74,8 @@ impl File {
     pub fn checksum(&self) -> oid<'_>
         ensures { oid_bytes result ≡ self.now.checksum }
     {
-        let bytes = self.bytes.as_slice();
-        id_from(bytes, self.layout.trailer_start, self.object_hash())
+        let bytes = self.shared.bytes.as_slice();
+        id_from(bytes, self.shared.layout.trailer_start, self.object_hash())
     }
 
     /// The id of the commit at a position below `num_commits()`: the section "OID Lookup".
@@ -82,9 +83,9 @@ impl File {
         requires { pos.0 < length self.now.ids }
         ensures { slice_get self.now.ids pos.0 ≡ Some (oid_bytes result) }
     {
-        let bytes = self.bytes.as_slice();
+        let bytes = self.shared.bytes.as_slice();
         let kind = self.object_hash();
-        let start = self.layout.chunks.ids.start + kind.len_in_bytes() * pos.0 as usize;
+        let start = self.shared.layout.chunks.ids.start + kind.len_in_bytes() * pos.0 as usize;
         id_from(bytes, start, kind)
     }
 
@@ -102,7 +103,7 @@ impl File {
     pub fn chunk(&self, id: [u8; 4]) -> Option<&[u8]>
         ensures { option_map (λ chunk. chunk.now) result ≡ chunk_of (bytes_of self.now) id }
     {
-        let bytes = self.bytes.as_slice();
+        let bytes = self.shared.bytes.as_slice();
         match find_chunk(bytes, id) {
             Some(place) => Some(&bytes[place.start..place.end]),
             None => None,
@@ -130,14 +131,23 @@ impl File {
         Commits::new(self)
     }
 
+    /// What the layer keeps.
+    pub(super) fn shared(&self) -> &Shared
+        ensures layout { IsLayout result.now.bytes result.now.layout }
+        ensures layer { decoded_layer result.now.bytes (string_bytes result.now.path) ≡ self.now }
+    {
+        &self.shared
+    }
+
     /// The id of a layer below this one.
     pub(crate) fn base_id_at(&self, index: u8) -> oid<'_>
         requires { index < length self.now.bases }
         ensures { slice_get self.now.bases index ≡ Some (oid_bytes result) }
     {
-        let bytes = self.bytes.as_slice();
+        let bytes = self.shared.bytes.as_slice();
         let kind = self.object_hash();
-        let start = start_of(self.layout.chunks.bases) + kind.len_in_bytes() * index as usize;
+        let start = start_of(self.shared.layout.chunks.bases)
+            + kind.len_in_bytes() * index as usize;
         id_from(bytes, start, kind)
     }
 
@@ -153,9 +163,10 @@ impl File {
         requires { pos.0 < length self.now.ids }
         ensures { oid_bytes result ≡ (record_at self.now pos.0).tree }
     {
-        let bytes = self.bytes.as_slice();
+        let shared = self.shared();
+        let bytes = shared.bytes.as_slice();
         let kind = self.object_hash();
-        let start = self.layout.chunks.records.start + record_len(kind) * pos.0 as usize;
+        let start = shared.layout.chunks.records.start + record_len(kind) * pos.0 as usize;
         id_from(bytes, start, kind)
     }
 
@@ -164,7 +175,7 @@ impl File {
         ensures fields { result.now ≡ map (λ r. r.generation) self.now.records }
         ensures len { length result.now ≡ length self.now.ids }
     {
-        &self.records.generations
+        &self.shared.records.generations
     }
 
     /// The times of the commits, in the order of their positions.
@@ -172,7 +183,7 @@ impl File {
         ensures fields { result.now ≡ map (λ r. r.time) self.now.records }
         ensures len { length result.now ≡ length self.now.ids }
     {
-        &self.records.times
+        &self.shared.records.times
     }
 
     /// Both parent fields of the commits, in the order of their positions.
@@ -180,14 +191,14 @@ impl File {
         ensures fields { result.now ≡ map stored_parents self.now.records }
         ensures len { length result.now ≡ length self.now.ids }
     {
-        &self.records.parent_fields
+        &self.shared.records.parent_fields
     }
 
     /// The words of the extra edge list, where the file has one.
     pub(crate) fn extra_edges(&self) -> Option<&[u32]>
         ensures { option_map (λ edges. edges.now) result ≡ option_map words self.now.edges }
     {
-        match &self.extra_edges {
+        match &self.shared.extra_edges {
             Some(edges) => Some(edges),
             None => None,
         }

@@ -6,12 +6,13 @@ ghost use Rattle.graph_format.specs.Layout.{IsLayout};
 ghost use Rattle.graph_format.specs.Opened.{MayRefuse};
 ghost use Rattle.graph_format.specs.Refusal.{refusal};
 
-use crate::file::File;
+use crate::file::{File, Shared};
 use bytes::Bytes;
 use graph_format::error::FileError;
 use graph_format::layout::{Layout, layout_of};
 use graph_format::records::decode_records_and_edges;
-use std::alloc::Global;
+use std::alloc::{AllocError, Global};
+use std::sync::Arc;
 
 impl File {
     /// Opens the layer whose file has these bytes. The path is kept and not opened.
@@ -56,12 +57,25 @@ impl File {
         else {
             return Err(FileError::OutOfMemory);
         };
-        Ok(File {
+        let shared = Shared {
             bytes,
             path,
             layout,
             records,
             extra_edges,
+        };
+        match Arc::new(alloc, shared) {
+            Ok(shared) => Ok(File { shared }),
+            Err(_) => Err(FileError::OutOfMemory),
+        }
+    }
+
+    /// The same layer once more, which shares all that this one keeps.
+    pub(crate) fn share(&self) -> Result<File, AllocError>
+        ensures { IfOk result (λ file. file ≡ self.now) }
+    {
+        Ok(File {
+            shared: Arc::try_clone(&self.shared)?,
         })
     }
 }

@@ -60,11 +60,12 @@ impl File {
         let wanted = id.as_bytes();
         let size = kind.len_in_bytes();
         let mut comparisons = 0;
-        if self.layout.kind.len_in_bytes() != size {
+        let shared = self.shared();
+        if shared.layout.kind.len_in_bytes() != size {
             return (None, comparisons);
         }
-        let bytes = self.bytes.as_slice();
-        let ids = self.layout.chunks.ids.start;
+        let bytes = shared.bytes.as_slice();
+        let ids = shared.layout.chunks.ids.start;
         let (low, high) = self.bucket(wanted[0]);
         // So many ids are left, the first of which begins at `first`. Before the middle one there
         // are `left / 2`, and after it `(left - 1) / 2`.
@@ -111,7 +112,12 @@ impl File {
         ensures rises { 0 < byte → slice_index self.now.fan (byte - 1) ≤ result }
         ensures within { result ≤ length self.now.ids }
     {
-        fan_at(self.bytes.as_slice(), self.layout.chunks.fan, byte as usize)
+        let shared = self.shared();
+        fan_at(
+            shared.bytes.as_slice(),
+            shared.layout.chunks.fan,
+            byte as usize,
+        )
     }
 
     /// The bytes of the id at a position, where ids have so many bytes.
@@ -121,8 +127,8 @@ impl File {
         ensures id { slice_get self.now.ids pos ≡ Some result.now }
         ensures len { length result.now ≡ size }
     {
-        let bytes = self.bytes.as_slice();
-        let start = self.layout.chunks.ids.start + size * pos as usize;
+        let bytes = self.shared.bytes.as_slice();
+        let start = self.shared.layout.chunks.ids.start + size * pos as usize;
         &bytes[start..start + size]
     }
 }

@@ -30,8 +30,9 @@ impl File {
             (λ _. self.now.checksum ≡ digest_of self.now.kind self.now.body)
             (λ _. self.now.checksum ≢ digest_of self.now.kind self.now.body) }
     {
-        let bytes = self.bytes.as_slice();
-        let actual = digest(self.object_hash(), &bytes[..self.layout.trailer_start]);
+        let shared = self.shared();
+        let bytes = shared.bytes.as_slice();
+        let actual = digest(self.object_hash(), &bytes[..shared.layout.trailer_start]);
         if actual.as_oid() == self.checksum() {
             Ok(actual)
         } else {

@@ -5,7 +5,8 @@ ghost use Rattle.gix_commitgraph.specs.Paths.{join_path, layer_path};
 
 use crate::bounds;
 use gix_commitgraph::opening::{self, OpenError, Standing, path};
-use gix_commitgraph::{FileError, Graph, GraphError};
+use gix_commitgraph::{File, FileError, Graph, GraphError};
+use graph_folder::chain::Lines;
 use graph_folder::folder::{Folder, ReadError};
 use std::alloc::{AllocError, AllocFailed, Global};
 use std::rt::Files;
@@ -44,6 +45,28 @@ fn info_dir_in<T: Folder>(alloc: Global, folder: &mut T, path: &str) -> Result<G
 
 fn chain_dir_in<T: Folder>(alloc: Global, folder: &mut T, path: &str) -> Result<Graph, OpenError> {
     opening::open_chain_dir_in(alloc, folder, path)
+}
+
+fn read_chain<T: Folder>(
+    alloc: Global,
+    folder: &mut T,
+    path: &str,
+) -> Result<Vec<u8>, OpenError> {
+    opening::read_chain(alloc, folder, path)
+}
+
+fn open_lines<T: Folder>(
+    alloc: Global,
+    folder: &mut T,
+    path: &str,
+    below: &[File],
+    lines: Lines<'_>,
+) -> Result<Vec<File>, OpenError> {
+    opening::open_lines(alloc, folder, path, below, lines)
+}
+
+fn text_of(line: &[u8]) -> Option<&str> {
+    opening::text_of(line)
 }
 
 fn stands_at<T: Folder>(alloc: Global, folder: &mut T, path: &str) -> Result<Standing, AllocError> {

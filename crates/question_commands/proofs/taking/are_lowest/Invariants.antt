@@ -1,7 +1,8 @@
 -- The lines so far name the layers so far, and no device has failed.
 use Rattle.std.proofs.Common.{◌≡◌, Some, take}
 use Rattle.graph_folder.specs.Tree.{Tree}
-use Rattle.question_commands.specs.TakenAnew.{layers_from, layers_with}
+use Rattle.gix_commitgraph.specs.Opening.{layers_from}
+use Rattle.question_commands.specs.TakenAnew.{layers_with}
 use Rattle.question_commands.proofs.taking.are_lowest.Given as goal
 
 abbrev pub invariant-loop-file : goal.invariant-loop-file

@@ -11,8 +11,9 @@ use Rattle.graph_layer.proofs.file.File.lookup_of_kind.Goals.{in-Less, in-Greate
 
 pub returns-then-len_in_bytes-size-clause-found : goal.returns-then-len_in_bytes-size-clause-found
 returns-then-len_in_bytes-size-clause-found c =
-    found-other_len _ _ (view-other_len _ _ _ _ _ c.self.invariant.layout c.self.view_is (λ same. c.if-len_in_bytes-size.true
-    (c.len_in_bytes.ensures ∙ ap id_len (view-kind _ _ _ _ c.self.invariant.layout c.self.view_is) ∙ sym same ∙ c.requires
+    let kept = c.shared-shared.ensures in
+    found-other_len _ _ (view-other_len _ _ _ _ _ kept.layout kept.layer (λ same. c.if-len_in_bytes-size.true
+    (c.len_in_bytes.ensures ∙ ap id_len (view-kind _ _ _ _ kept.layout kept.layer) ∙ sym same ∙ c.requires
     ∙ sym c.len_in_bytes-size.ensures)))
 
 pub loop-left-init : goal.loop-left-init
@@ -21,9 +22,9 @@ loop-left-init c =
     record {
       left =
           rw c.as_slice-bytes.ensures
-          (left-bucket _ _ _ _ _ _ _ _ c.self.invariant.layout c.self.view_is
+          (left-bucket _ _ _ _ _ _ _ _ c.shared-shared.ensures.layout c.shared-shared.ensures.layer
           (sym c.if-len_in_bytes-size.false ∙ c.len_in_bytes.ensures
-          ∙ ap id_len (view-kind _ _ _ _ c.self.invariant.layout c.self.view_is)) c.bucket-low.ensures.order
+          ∙ ap id_len (view-kind _ _ _ _ c.shared-shared.ensures.layout c.shared-shared.ensures.layer)) c.bucket-low.ensures.order
           c.bucket-low.ensures.within
           (rw (c.bucket-low.ensures.start, c.bucket-low.ensures.end) (stands_within-bucket _ _ byte)));
       counted = rw (c.bucket-low.ensures.start, c.bucket-low.ensures.end) (omega arith);

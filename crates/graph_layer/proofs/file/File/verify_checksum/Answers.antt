@@ -6,12 +6,13 @@ use Rattle.graph_layer.proofs.file.File.verify_checksum.Goals as goal
 
 pub slice_bounds-digest-end : goal.slice_bounds-digest-end
 slice_bounds-digest-end c =
-    rw c.as_slice-bytes.ensures (sym (length-take-le _ _ (view-body-in_file _ _ _ _ c.self.invariant.layout c.self.view_is)))
+    let kept = c.shared-shared.ensures in
+    rw c.as_slice-bytes.ensures (sym (length-take-le _ _ (view-body-in_file _ _ _ _ kept.layout kept.layer)))
 
 pub returns-then-eq-clause-digest : goal.returns-then-eq-clause-digest
 returns-then-eq-clause-digest c =
-    rw (c.object_hash.ensures, c.as_slice-bytes.ensures, view-body _ _ _ _ c.self.invariant.layout c.self.view_is) at
-    c.digest-actual.ensures
+    let kept = c.shared-shared.ensures in
+    rw (c.object_hash.ensures, c.as_slice-bytes.ensures, view-body _ _ _ _ kept.layout kept.layer) at c.digest-actual.ensures
 
 pub returns-then-eq-clause-trailer : goal.returns-then-eq-clause-trailer
 returns-then-eq-clause-trailer c =
@@ -20,9 +21,10 @@ returns-then-eq-clause-trailer c =
 
 pub returns-else-eq-clause-trailer : goal.returns-else-eq-clause-trailer
 returns-else-eq-clause-trailer c same =
+    let kept = c.shared-shared.ensures in
     other_text _ _ (sym c.if-eq.false ∙ c.eq.ensures)
     (c.as_oid.ensures
-    ∙ (rw (c.object_hash.ensures, c.as_slice-bytes.ensures, view-body _ _ _ _ c.self.invariant.layout c.self.view_is) at
+    ∙ (rw (c.object_hash.ensures, c.as_slice-bytes.ensures, view-body _ _ _ _ kept.layout kept.layer) at
     c.digest-actual.ensures)
     ∙ sym same
     ∙ sym c.checksum.ensures)
