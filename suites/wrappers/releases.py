@@ -23,6 +23,7 @@ class Copy:
             os.makedirs(os.path.dirname(os.path.join(folder, path)), exist_ok=True)
             shutil.copy(os.path.join(TOP, path), os.path.join(folder, path))
         version.write(version.CHANGES, changes, folder)
+        os.mkdir(os.path.join(folder, "gate"))
         version.write("gate/test", "#!/bin/sh\nexit %d\n" % gate, folder)
         os.chmod(os.path.join(folder, "gate", "test"), 0o755)
         for words in (["init", "--quiet"], ["add", "--all"], ["commit", "--quiet", "--message", "All"]):
