@@ -1,0 +1,138 @@
+"""Counts what each command, each question and each call of the library for C costs on histories that are made to do harm, each of
+three sizes, and compares how that grows with a table.
+
+usage: python3 scripts/costs [--large] [GRAPHTOOL HISTORYTOOL LIBRARY [NAME..]]
+
+The table is `table.py`, and the histories are in `shapes.py`: many layers, many parents, others and words of one list, ids that are
+alike in front or spread unevenly, one commit on top of many, and few commits with many bytes. Valgrind counts instructions, the same on
+each machine, however busy it is, and counting.c bytes of memory. Only how they grow is compared, so what is the same at each size
+counts for nothing. Each answer has to be the one of the plan too. A check refuses a command, a question or a call without a row.
+
+Without the programs and the shared library, `scripts/program` and `scripts/library` find them, and prove and build them first where
+a source is newer. A path `-` comes as a line of standard input. NAME is that of a shape, as tower, or of a row, as `ask walk`: then
+only these are counted. With `--large` each size is four times as large. Without valgrind or a C compiler all is left out. The last line
+is `N passed, M failed`.
+"""
+
+import os
+import shutil
+import sys
+import tempfile
+
+SCRIPTS = os.path.dirname(os.path.dirname(os.path.abspath(__file__)))
+sys.path[:0] = [SCRIPTS]
+
+from costs import shapes, table
+from costs.measured import Counter, Wrong
+from later import Later
+from results import Results
+from sizes import built, coverage
+from sizes import table as asked
+
+STEPS = 1, 2, 4
+"""Each shape has so many times its first size."""
+
+LARGE = 4
+"""So many times as large is each size where the largest are asked for."""
+
+CHANCE = {"instructions": 3000, "memory": 600}
+"""So much of the growth of a cost may come by chance, as by how an id falls."""
+
+ROWS = [*table.COMMANDS, *table.QUESTIONS, *table.CALLS]
+
+
+def main(paths, times, names):
+    """Counts the costs of all rows, or of those of some names, and answers the exit status."""
+    results, later = Results(), Later()
+    coverage.check(results, "each command, question and call has a row", [row.asked() for row in ROWS])
+    with tempfile.TemporaryDirectory() as folder:
+        counter = Counter(folder)
+        lacking = next((tool for tool in ("valgrind", "cc") if not shutil.which(tool)), None) or counter.build()
+        if lacking:
+            print("left out, since there is no %s: how the costs of commands, questions and calls grow" % lacking)
+            return results.finish()
+        found = [later.path(path) for path in paths] if paths else built.paths()
+        results.check("each program and the library are built", None if all(found) else "no path of one came")
+        if all(found):
+            tools = built.by_command(found), os.path.splitext(os.path.abspath(found[2]))[0] + ".a"
+            for name in [name for name in table.SIZES if name in names] or table.SIZES:
+                made = laid_out(name, os.path.join(folder, name), times * table.SIZES[name])
+                Counts(results, counter, made, tools, names).run()
+                shutil.rmtree(os.path.join(folder, name))
+    return results.finish()
+
+
+def laid_out(name, folder, size):
+    """The three sizes of a shape, in files."""
+    made = [getattr(shapes, name)(step * size) for step in STEPS]
+    for step, shape in zip(STEPS, made):
+        shape.lay_out(os.path.join(folder, str(step)))
+    return made
+
+
+class Counts:
+    """Counts the costs of all rows for one shape, or of those of some names."""
+
+    def __init__(self, results, counter, made, tools, names):
+        self.results, self.counter, self.made = results, counter, made
+        self.programs, self.archive = tools
+        self.names = {row.name for row in ROWS}.intersection(names) or {row.name for row in ROWS}
+
+    def of(self, rows):
+        """Those of some rows that are for this shape."""
+        return [row for row in rows if row.name in self.names and self.made[0].name in row.shapes]
+
+    def run(self):
+        """Counts them."""
+        for row in self.of(table.COMMANDS):
+            self.judge([row], lambda shape, row=row: {row.name: self.counter.of_command(self.programs, named(asked.COMMANDS, row), shape)})
+        for flags in ([], ["--unchecked"]):
+            rows = [row for row in self.of(table.QUESTIONS) if row.flags() == flags]
+            told = [named(asked.QUESTIONS, row) for row in rows]
+            self.judge(rows, lambda shape, told=told, flags=flags: self.counter.of_questions(self.programs["ask"], told, shape, flags))
+        rows, kept = self.of(table.CALLS), []
+        self.judge(rows, lambda shape: self.of_calls([row.name for row in rows], kept)[self.made.index(shape)])
+
+    def of_calls(self, names, kept):
+        """What the calls of these names cost at each size. They are made once, and what they cost is kept."""
+        if not kept:
+            kept.extend(self.counter.of_calls(self.archive, names, self.made))
+        return kept
+
+    def judge(self, rows, count):
+        """Counts for some rows a check each of how their costs grow."""
+        try:
+            told = [count(shape) for shape in self.made] if rows else []
+        except Wrong as wrong:
+            told = [dict.fromkeys([row.asked().name for row in rows], str(wrong))]
+        for row in rows:
+            self.judge_row(row, [costs[row.asked().name] for costs in told])
+
+    def judge_row(self, row, costs):
+        """Counts two checks of how the costs of a row grow."""
+        wrong = next((cost for cost in costs if isinstance(cost, str)), None)
+        if wrong:
+            self.results.check("%s: %s" % (self.made[0].name, row.name), wrong)
+            return
+        measures = [cost.measure for cost in costs]
+        for part, growth in (("instructions", row.instructions), ("memory", row.memory)):
+            counted = [getattr(cost, part) for cost in costs]
+            said = "%s: %s, %s: %s for %s bytes" % (self.made[0].name, row.name, part, listed(counted), listed(measures))
+            self.results.check(said, None if growth.is_kept(measures, counted, CHANCE[part]) else "not " + str(growth))
+
+
+def listed(numbers):
+    """The text of three numbers."""
+    return "%d, %d and %d" % tuple(numbers)
+
+
+def named(rows, row):
+    """What a row of this table asks: the row of its name in the other."""
+    return next(other for other in rows if other.name == row.asked().name)
+
+
+if __name__ == "__main__":
+    WORDS = [word for word in sys.argv[1:] if word != "--large"]
+    if len(WORDS) in (1, 2) or any(word.startswith("--") for word in WORDS[:3]):
+        sys.exit(__doc__)
+    sys.exit(main(WORDS[:3], LARGE if "--large" in sys.argv[1:] else 1, WORDS[3:]))
