@@ -66,6 +66,7 @@ def laid_out(name, folder, size):
     """The three sizes of a shape, in files."""
     made = [getattr(shapes, name)(step * size) for step in STEPS]
     for step, shape in zip(STEPS, made):
+        shape.name = name
         shape.lay_out(os.path.join(folder, str(step)))
     return made
 
