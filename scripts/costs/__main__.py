@@ -77,6 +77,7 @@ class Counts:
     def __init__(self, results, counter, made, tools, names):
         self.results, self.counter, self.made = results, counter, made
         self.programs, self.archive = tools
+        self.parents = [sum(map(len, shape.plan.parents[: shape.count])) for shape in made]
         self.names = {row.name for row in ROWS}.intersection(names) or {row.name for row in ROWS}
 
     def of(self, rows):
@@ -115,10 +116,11 @@ class Counts:
         if wrong:
             self.results.check("%s: %s" % (self.made[0].name, row.name), wrong)
             return
-        measures = [cost.measure for cost in costs]
+        measures = {"size": STEPS, "squares": [step**2 for step in STEPS], "doublings": range(len(STEPS)), "parents": self.parents}
+        measures["bytes"] = [cost.bytes for cost in costs]
         for part, growth in (("instructions", row.instructions), ("memory", row.memory)):
             counted = [getattr(cost, part) for cost in costs]
-            said = "%s: %s, %s: %s for %s bytes" % (self.made[0].name, row.name, part, listed(counted), listed(measures))
+            said = "%s: %s, %s: %s for %s bytes" % (self.made[0].name, row.name, part, listed(counted), listed(measures["bytes"]))
             self.results.check(said, None if growth.is_kept(measures, counted, CHANCE[part]) else "not " + str(growth))
 
 

@@ -2,36 +2,44 @@
 
 from typing import NamedTuple
 
-STEEPER = {"constant": 0.0, "logarithmic": 1.4, "linear": 1.15, "n log n": 1.3}
-"""The kinds of growth, each with how much steeper it may be between the second and the third size than between the first and the
-second: of a logarithm the growth itself, else the growth for each byte."""
-
 
 class Growth(NamedTuple):
-    """A kind of growth, and the most that each byte may cost, where that is told."""
+    """A kind of growth: what it goes with, and how much steeper than that it may be between the second and the third size than between the
+    first and the second. `most` is the most that each byte which is read or written may cost, where that is told."""
 
     name: str
+    goes_with: str = ""
+    steeper: float = 0.0
     most: float = 0.0
 
     def __str__(self):
         return self.name + (", at most %g for each byte" % self.most if self.most else "")
 
     def is_kept(self, measures, costs, chance):
-        """Whether the costs of three sizes keep to it. `measures` are the bytes that are read and written at each size, and so much of a
-        growth as `chance` may come by chance."""
-        first, second = costs[1] - costs[0], costs[2] - costs[1]
-        before, after = measures[1] - measures[0], measures[2] - measures[1]
-        if self.name == "constant":
+        """Whether the costs of three sizes keep to it. `measures` has, for each thing that a growth can go with, how much of it there is at
+        each size; and so much of a growth as `chance` may come by chance."""
+        first, second = steps(costs)
+        if not self.goes_with:
             return first <= chance and second <= chance
-        times = 1 if self.name == "logarithmic" else after / before
-        if second > STEEPER[self.name] * max(first, 0) * times + chance:
+        before, after = steps(measures[self.goes_with])
+        if second > self.steeper * max(first, 0) * after / before + chance:
             return False
-        return not self.most or first + second <= self.most * (before + after) + chance
+        return not self.most or first + second <= self.most * sum(steps(measures["bytes"])) + chance
+
+    def at_most(self, number):
+        """The same growth, of at most so much for each byte."""
+        return self._replace(most=number)
 
 
-CONSTANT, LOGARITHMIC, LINEAR, N_LOG_N = map(Growth, STEEPER)
+def steps(numbers):
+    """By how much the second of three numbers is above the first, and the third above the second."""
+    return numbers[1] - numbers[0], numbers[2] - numbers[1]
 
 
-def linear(most):
-    """Linear growth, of at most so much for each byte."""
-    return Growth("linear", most)
+CONSTANT = Growth("constant")
+LOGARITHMIC = Growth("logarithmic", "doublings", 1.4)
+LINEAR = Growth("linear", "size", 1.1)
+N_LOG_N = Growth("n log n", "size", 1.25)
+SQUARE = Growth("square", "squares", 1.1)
+BY_BYTES = Growth("linear in the bytes that are read and written", "bytes", 1.1)
+BY_PARENTS = Growth("linear in the parents that all commits have", "parents", 1.1)

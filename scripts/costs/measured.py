@@ -32,7 +32,7 @@ class Cost(NamedTuple):
 
     instructions: int
     memory: int
-    measure: int
+    bytes: int
 
 
 class Wrong(Exception):

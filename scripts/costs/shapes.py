@@ -16,7 +16,12 @@ def lines(size):
 
 def layers(size):
     """A chain of `size` layers."""
-    return chain(KIND, size, 3, others=min(16, size - 1))
+    return chain(KIND, size, 4, others=16)
+
+
+def alike(size):
+    """A chain of `size` layers, in which all ids begin with the same byte, so that each is looked for in each layer."""
+    return chain(KIND, size, 4, others=16, ids=partial(with_front, b"\x77"))
 
 
 def parents(size):

@@ -5,10 +5,10 @@ it is asked.
 
 from typing import NamedTuple, Tuple
 
-from costs.growth import CONSTANT, LINEAR, LOGARITHMIC, N_LOG_N, Growth, linear
+from costs.growth import BY_BYTES, BY_PARENTS, CONSTANT, LINEAR, LOGARITHMIC, N_LOG_N, SQUARE, Growth
 
 SIZES = {
-    **{"lines": 300, "layers": 24, "parents": 200, "lists": 60, "prefix": 1000, "steps": 1000, "tower": 1000},
+    **{"lines": 300, "layers": 25, "alike": 25, "parents": 200, "lists": 100, "prefix": 1000, "steps": 1000, "tower": 1000},
     **{"marks": 20_000, "message": 300_000, "padding": 300_000, "filters": 100_000},
 }
 """Each shape, and the first of its three sizes."""
@@ -16,21 +16,21 @@ SIZES = {
 COMMITS = ("lines", "prefix", "steps", "tower")
 """The shapes in which only commits become more: an id is found in a logarithm of them."""
 
-CALLED = ("lines", "prefix", "layers", "parents", "lists", "padding")
-"""The shapes that the calls are asked about."""
-
-FLAT = ("lines", "prefix", "parents", "lists", "padding")
+FLAT = (*COMMITS, "parents", "padding")
 """Those whose layers do not become more."""
 
-SOME = ("lines", "prefix", "layers", "parents", "lists")
-"""Those in which commits, layers or parents become more."""
+CALLED = (*FLAT, "layers", "lists")
+"""The shapes that the calls are asked about."""
+
+FEW = ("padding", "filters")
+"""Those whose commits do not become more."""
 
 UNCHECKED = " --unchecked"
 
 
 class Row(NamedTuple):
-    """How the costs of a command, a question or a call may grow. `name` is that of a row in the table of scripts/sizes, and behind the
-    name of a question `--unchecked` where it is asked of a graph that is not checked."""
+    """How the costs of a command, a question or a call may grow with some shapes. `name` is that of a row in the table of scripts/sizes,
+    and behind the name of a question `--unchecked` where it is asked of a graph that is not checked."""
 
     name: str
     shapes: Tuple[str, ...]
@@ -48,34 +48,51 @@ class Row(NamedTuple):
 
 
 COMMANDS = (
-    Row("list", ("lines", "layers", "parents", "lists"), LINEAR, LINEAR),
-    Row("list", ("padding",), linear(2), LINEAR),
-    Row("verify", ("lines", "layers", "parents", "lists", "prefix", "padding", "filters"), LINEAR, LINEAR),
-    Row("distinct", ("lines", "layers", "prefix", "tower"), N_LOG_N, LINEAR),
-    Row("find", COMMITS, LOGARITHMIC, LINEAR),
-    Row("find", ("layers",), LINEAR, LINEAR),
-    Row("find", ("padding",), CONSTANT, CONSTANT),
+    Row("list", ("lines", "parents"), LINEAR.at_most(6), LINEAR),
+    Row("list", ("layers",), LINEAR, LINEAR),
+    Row("list", ("lists",), BY_PARENTS, LINEAR),
+    Row("list", ("padding",), LINEAR.at_most(0.5), LINEAR),
+    Row("verify", ("lines", "parents", "prefix", "lists", *FEW), LINEAR, LINEAR),
+    Row("verify", ("layers",), BY_BYTES, LINEAR),
+    Row("distinct", ("lines", "prefix", "tower"), LINEAR, LINEAR),
+    Row("distinct", ("layers",), BY_BYTES, LINEAR),
+    Row("find", ("lines", "tower"), LOGARITHMIC, CONSTANT),
+    Row("find", ("prefix", "steps"), LOGARITHMIC, LINEAR),
+    Row("find", ("alike",), LINEAR, LINEAR),
+    Row("find", FEW, CONSTANT, CONSTANT),
     Row("ancestor", ("lines", "lists"), LINEAR, LINEAR),
     Row("is-ancestor", ("lines", "lists"), LINEAR, LINEAR),
     Row("is-ancestor --unchecked", ("lines", "steps", "layers", "parents", "lists"), LINEAR, LINEAR),
-    Row("is-ancestor --unchecked", ("tower",), LOGARITHMIC, LINEAR),
-    Row("is-ancestor --unchecked", ("padding",), CONSTANT, CONSTANT),
+    Row("is-ancestor --unchecked", ("tower",), LOGARITHMIC, LOGARITHMIC),
+    Row("is-ancestor --unchecked", FEW, CONSTANT, CONSTANT),
     Row("walk", ("lines", "lists"), LINEAR, LINEAR),
     Row("walk --unchecked", ("lines", "layers", "lists"), LINEAR, LINEAR),
-    Row("walk --unchecked", ("tower",), LOGARITHMIC, LINEAR),
+    Row("walk --unchecked", ("tower",), LOGARITHMIC, LOGARITHMIC),
+    Row("walk --unchecked", FEW, CONSTANT, CONSTANT),
     Row("merge-base", ("lines", "parents", "lists"), LINEAR, LINEAR),
     Row("merge-base --unchecked", ("lines", "layers", "parents", "lists"), LINEAR, LINEAR),
-    Row("merge-base --unchecked", ("tower",), LOGARITHMIC, LINEAR),
+    Row("merge-base --unchecked", ("tower",), LOGARITHMIC, LOGARITHMIC),
+    Row("merge-base --unchecked", FEW, CONSTANT, CONSTANT),
     Row("merge-base-ids", ("parents",), LINEAR, LINEAR),
     Row("merge-base-ids --unchecked", ("parents",), LINEAR, LINEAR),
-    Row("check", ("lines", "layers", "lists", "padding", "filters"), LINEAR, LINEAR),
-    Row("show", ("lines", "layers", "filters"), LINEAR, LINEAR),
-    Row("ids", ("lines", "layers"), LINEAR, LINEAR),
-    Row("ids", ("padding",), linear(2), LINEAR),
-    Row("objects", ("lines", "parents", "lists", "tower", "marks", "message"), LINEAR, LINEAR),
-    Row("write", ("lines", "parents", "lists", "marks", "message"), LINEAR, LINEAR),
-    Row("write: on top", ("tower", "layers"), LINEAR, LINEAR),
-    Row("merge", ("lines", "layers", "lists", "prefix", "steps", "filters"), LINEAR, LINEAR),
+    Row("merge-base-ids --unchecked", ("tower",), LOGARITHMIC, LOGARITHMIC),
+    Row("merge-base-ids --unchecked", FEW, CONSTANT, CONSTANT),
+    Row("check", ("lines", "lists", *FEW), LINEAR, LINEAR),
+    Row("check", ("layers",), BY_BYTES, LINEAR),
+    Row("show", ("lines", "lists", *FEW), LINEAR, LINEAR),
+    Row("show", ("layers",), BY_BYTES, LINEAR),
+    Row("ids", ("lines",), LINEAR.at_most(4), LINEAR),
+    Row("ids", ("layers",), LINEAR, LINEAR),
+    Row("ids", ("padding",), LINEAR.at_most(0.5), LINEAR),
+    Row("objects", ("lines", "parents", "tower", "marks", "message"), LINEAR, LINEAR),
+    Row("objects", ("lists",), BY_PARENTS, LINEAR),
+    Row("write", ("lines", "parents", "marks", "message"), LINEAR, LINEAR),
+    Row("write", ("lists",), BY_PARENTS, BY_PARENTS),
+    Row("write: on top", ("tower",), LINEAR, LINEAR),
+    Row("write: on top", ("layers",), BY_BYTES, LINEAR),
+    Row("merge", ("lines", "prefix", "steps", "filters"), LINEAR, LINEAR),
+    Row("merge", ("layers",), BY_BYTES, LINEAR),
+    Row("merge", ("lists",), BY_PARENTS, BY_PARENTS),
 )
 """The commands."""
 
@@ -87,74 +104,108 @@ def both(name, shapes, instructions, memory):
 
 QUESTIONS = (
     *both("ask find", COMMITS, LOGARITHMIC, CONSTANT),
-    *both("ask find", ("layers",), LINEAR, CONSTANT),
+    *both("ask find", ("alike",), LINEAR, CONSTANT),
+    *both("ask find", FEW, CONSTANT, CONSTANT),
     *both("ask is-ancestor", ("lines", "lists"), LINEAR, LINEAR),
-    *both("ask is-ancestor", ("tower",), LOGARITHMIC, LINEAR),
+    Row("ask is-ancestor", ("tower",), LOGARITHMIC, LINEAR),
+    Row("ask is-ancestor --unchecked", ("tower",), LOGARITHMIC, LOGARITHMIC),
+    *both("ask is-ancestor", FEW, CONSTANT, CONSTANT),
     *both("ask walk", ("lines", "lists"), LINEAR, LINEAR),
-    *both("ask walk", ("tower",), LOGARITHMIC, LINEAR),
+    Row("ask walk", ("tower",), LOGARITHMIC, LINEAR),
+    Row("ask walk --unchecked", ("tower",), LOGARITHMIC, LOGARITHMIC),
+    *both("ask walk", FEW, CONSTANT, CONSTANT),
     *both("ask merge-base", ("lines", "parents", "lists"), LINEAR, LINEAR),
-    *both("ask merge-base", ("tower",), LOGARITHMIC, LINEAR),
-    *both("ask parents", ("prefix", "steps", "tower"), LOGARITHMIC, CONSTANT),
-    *both("ask parents", ("layers", "parents", "lists"), LINEAR, LINEAR),
-    *both("ask reload", ("lines", "layers", "lists", "tower", "padding"), LINEAR, LINEAR),
+    Row("ask merge-base", ("tower",), LOGARITHMIC, LINEAR),
+    Row("ask merge-base --unchecked", ("tower",), LOGARITHMIC, LOGARITHMIC),
+    *both("ask merge-base", FEW, CONSTANT, CONSTANT),
+    *both("ask parents", COMMITS, LOGARITHMIC, CONSTANT),
+    *both("ask parents", ("alike", "parents", "lists"), LINEAR, LINEAR),
+    *both("ask parents", FEW, CONSTANT, CONSTANT),
+    Row("ask reload", ("lines", "layers", "lists", "tower"), LINEAR, LINEAR),
+    Row("ask reload", FEW, LINEAR.at_most(0.5), LINEAR),
+    Row("ask reload --unchecked", ("lines", "lists", "tower"), LINEAR.at_most(1), CONSTANT),
+    Row("ask reload --unchecked", ("layers",), LINEAR, LINEAR),
+    Row("ask reload --unchecked", FEW, CONSTANT, CONSTANT),
 )
-"""The questions, of each what it costs beyond a run without questions."""
+"""The questions, of each what it costs by itself."""
 
 CALLS = (
     Row("cg_version", CALLED, CONSTANT, CONSTANT),
-    Row("cg_open", CALLED, LINEAR, LINEAR),
-    Row("cg_open_lent", SOME, LINEAR, LINEAR),
+    Row("cg_open", ("lines", "prefix", "parents", "lists", "padding"), LINEAR.at_most(3), LINEAR),
+    Row("cg_open", ("layers",), LINEAR, BY_BYTES),
+    Row("cg_open_lent", ("lines", "prefix", "parents", "lists"), LINEAR.at_most(3), LINEAR),
+    Row("cg_open_lent", ("layers",), LINEAR, LINEAR),
     Row("cg_open_lent", ("padding",), CONSTANT, CONSTANT),
-    Row("cg_open_known", CALLED, LINEAR, LINEAR),
-    Row("cg_open_checked", CALLED, N_LOG_N, LINEAR),
-    Row("cg_check", CALLED, N_LOG_N, LINEAR),
-    Row("cg_check_within", CALLED, N_LOG_N, LINEAR),
+    Row("cg_open_known", ("lines", "layers", "prefix", "parents", "lists", "padding"), LINEAR.at_most(1), LINEAR),
+    Row("cg_open_checked", ("lines", "prefix", "parents", "lists", "padding"), LINEAR, LINEAR),
+    Row("cg_open_checked", ("layers",), BY_BYTES, BY_BYTES),
+    Row("cg_check", ("lines", "prefix", "parents", "lists", "padding"), LINEAR, LINEAR),
+    Row("cg_check", ("layers",), BY_BYTES, LINEAR),
+    Row("cg_check_within", ("lines", "prefix", "parents", "lists", "padding"), LINEAR, LINEAR),
+    Row("cg_check_within", ("layers",), BY_BYTES, LINEAR),
     Row("cg_close", FLAT, CONSTANT, CONSTANT),
     Row("cg_close", ("layers",), LINEAR, CONSTANT),
     Row("cg_flag_new", CALLED, CONSTANT, CONSTANT),
     Row("cg_flag_raise", CALLED, CONSTANT, CONSTANT),
     Row("cg_flag_free", CALLED, CONSTANT, CONSTANT),
-    Row("cg_num_commits", FLAT, CONSTANT, CONSTANT),
-    Row("cg_num_commits", ("layers",), LINEAR, CONSTANT),
+    Row("cg_num_commits", CALLED, CONSTANT, CONSTANT),
     Row("cg_id_len", CALLED, CONSTANT, CONSTANT),
     Row("cg_num_layers", CALLED, CONSTANT, CONSTANT),
-    Row("cg_layer", FLAT, CONSTANT, CONSTANT),
-    Row("cg_layer", ("layers",), LINEAR, CONSTANT),
+    Row("cg_layer", CALLED, CONSTANT, CONSTANT),
     Row("cg_layer_checksum", CALLED, CONSTANT, CONSTANT),
     Row("cg_base_id_at", CALLED, CONSTANT, CONSTANT),
     Row("cg_lookup", FLAT, LOGARITHMIC, CONSTANT),
-    Row("cg_lookup", ("layers",), LINEAR, CONSTANT),
-    Row("cg_lookup_all", CALLED, N_LOG_N, CONSTANT),
-    Row("cg_id_at", CALLED, LOGARITHMIC, CONSTANT),
-    Row("cg_tree_at", CALLED, LOGARITHMIC, CONSTANT),
-    Row("cg_lend_id", CALLED, LOGARITHMIC, CONSTANT),
-    Row("cg_lend_tree", CALLED, LOGARITHMIC, CONSTANT),
-    Row("cg_ids_at", CALLED, N_LOG_N, CONSTANT),
-    Row("cg_commit_at", CALLED, LOGARITHMIC, CONSTANT),
-    Row("cg_generation_at", CALLED, LOGARITHMIC, CONSTANT),
+    Row("cg_lookup", ("alike",), LINEAR, CONSTANT),
+    Row("cg_lookup_all", (*FLAT, "lists"), N_LOG_N, CONSTANT),
+    Row("cg_lookup_all", ("alike",), SQUARE, CONSTANT),
+    Row("cg_id_at", CALLED, CONSTANT, CONSTANT),
+    Row("cg_tree_at", CALLED, CONSTANT, CONSTANT),
+    Row("cg_lend_id", CALLED, CONSTANT, CONSTANT),
+    Row("cg_lend_tree", CALLED, CONSTANT, CONSTANT),
+    Row("cg_ids_at", (*FLAT, "lists"), LINEAR, CONSTANT),
+    Row("cg_ids_at", ("layers",), N_LOG_N, CONSTANT),
+    Row("cg_commit_at", CALLED, CONSTANT, CONSTANT),
+    Row("cg_generation_at", CALLED, CONSTANT, CONSTANT),
     Row("cg_commits", CALLED, LINEAR, CONSTANT),
-    Row("cg_parents", CALLED, LINEAR, CONSTANT),
-    Row("cg_first_parents", CALLED, LINEAR, CONSTANT),
-    Row("cg_first_parent", CALLED, LOGARITHMIC, CONSTANT),
-    Row("cg_parents_from", CALLED, LINEAR, CONSTANT),
-    Row("cg_verify", CALLED, N_LOG_N, LINEAR),
-    Row("cg_verify_layer", CALLED, LINEAR, LINEAR),
-    Row("cg_ancestor_walk", SOME, LINEAR, LINEAR),
+    Row("cg_parents", (*COMMITS, "layers", "padding"), CONSTANT, CONSTANT),
+    Row("cg_parents", ("parents", "lists"), LINEAR, CONSTANT),
+    Row("cg_first_parents", (*COMMITS, "layers", "padding"), CONSTANT, CONSTANT),
+    Row("cg_first_parents", ("parents", "lists"), LINEAR, CONSTANT),
+    Row("cg_first_parent", (*COMMITS, "parents", "padding"), CONSTANT, CONSTANT),
+    Row("cg_parents_from", (*FLAT, "layers"), LINEAR, CONSTANT),
+    Row("cg_parents_from", ("lists",), BY_PARENTS, CONSTANT),
+    Row("cg_verify", ("lines", "prefix", "parents", "lists", "padding"), LINEAR, LINEAR),
+    Row("cg_verify", ("layers",), BY_BYTES, LINEAR),
+    Row("cg_verify_layer", ("lines", "prefix", "parents", "lists", "padding"), LINEAR, LINEAR),
+    Row("cg_verify_layer", ("layers",), LINEAR.at_most(1), CONSTANT),
+    Row("cg_ancestor_walk", ("lines", "prefix", "layers", "parents", "lists"), LINEAR, LINEAR),
     Row("cg_ancestor_walk", ("padding",), CONSTANT, CONSTANT),
-    Row("cg_ancestor_walk_within", SOME, LINEAR, LINEAR),
-    Row("cg_is_ancestor", SOME, LINEAR, LINEAR),
-    Row("cg_is_ancestor_within", SOME, LINEAR, LINEAR),
-    Row("cg_are_ancestors", SOME, LINEAR, LINEAR),
-    Row("cg_merge_bases", SOME, LINEAR, LINEAR),
-    Row("cg_merge_bases_within", SOME, LINEAR, LINEAR),
-    Row("cg_merge_bases_of", SOME, LINEAR, LINEAR),
-    Row("cg_corrected_dates", CALLED, LINEAR, LINEAR),
-    Row("cg_probe_path", CALLED, LINEAR, LINEAR),
-    Row("cg_matches", ("lines", "layers", "parents", "lists", "padding"), LINEAR, LINEAR),
-    Row("cg_write", CALLED, N_LOG_N, LINEAR),
-    Row("cg_bytes_copy", SOME, LINEAR, CONSTANT),
+    Row("cg_ancestor_walk_within", ("lines", "prefix", "layers", "parents", "lists"), LINEAR, LINEAR),
+    Row("cg_ancestor_walk_within", ("padding",), CONSTANT, CONSTANT),
+    Row("cg_is_ancestor", ("lines", "prefix", "layers", "parents", "lists"), LINEAR, LINEAR),
+    Row("cg_is_ancestor", ("padding",), CONSTANT, CONSTANT),
+    Row("cg_is_ancestor_within", ("lines", "prefix", "layers", "parents", "lists"), LINEAR, LINEAR),
+    Row("cg_is_ancestor_within", ("padding",), CONSTANT, CONSTANT),
+    Row("cg_are_ancestors", ("lines", "prefix", "layers", "parents", "lists"), LINEAR, LINEAR),
+    Row("cg_are_ancestors", ("padding",), CONSTANT, CONSTANT),
+    Row("cg_merge_bases", ("lines", "prefix", "layers", "parents", "lists"), LINEAR, LINEAR),
+    Row("cg_merge_bases", ("padding",), CONSTANT, CONSTANT),
+    Row("cg_merge_bases_within", ("lines", "prefix", "layers", "parents", "lists"), LINEAR, LINEAR),
+    Row("cg_merge_bases_within", ("padding",), CONSTANT, CONSTANT),
+    Row("cg_merge_bases_of", ("lines", "prefix", "layers", "parents", "lists"), LINEAR, LINEAR),
+    Row("cg_merge_bases_of", ("padding",), CONSTANT, CONSTANT),
+    Row("cg_corrected_dates", (*COMMITS, "layers", "parents", "lists"), LINEAR, LINEAR),
+    Row("cg_corrected_dates", ("padding",), CONSTANT, CONSTANT),
+    Row("cg_probe_path", (*COMMITS, "layers", "parents", "lists"), LINEAR, LINEAR),
+    Row("cg_probe_path", FEW, CONSTANT, CONSTANT),
+    Row("cg_matches", (*COMMITS, "layers", "padding"), CONSTANT, CONSTANT),
+    Row("cg_matches", ("parents", "lists", "marks", "message"), LINEAR, CONSTANT),
+    Row("cg_write", ("lines", "prefix", "tower", "layers", "parents"), LINEAR, LINEAR),
+    Row("cg_write", ("lists",), BY_PARENTS, BY_PARENTS),
+    Row("cg_write", ("padding",), CONSTANT, CONSTANT),
+    Row("cg_bytes_copy", ("lines", "prefix", "layers", "parents"), LINEAR, CONSTANT),
     Row("cg_lend_bytes", CALLED, CONSTANT, CONSTANT),
     Row("cg_bytes_free", CALLED, CONSTANT, CONSTANT),
-    Row("cg_chain_line", SOME, LINEAR, CONSTANT),
+    Row("cg_chain_line", ("lines", "prefix"), LINEAR, CONSTANT),
 )
 """The calls of the library."""
