@@ -35,7 +35,7 @@ STEPS = 1, 2, 4
 LARGE = 4
 """So many times as large is each size where the largest are asked for."""
 
-CHANCE = {"instructions": 3000, "memory": 600}
+CHANCE = {"instructions": 5000, "memory": 600}
 """So much of the growth of a cost may come by chance, as by how an id falls."""
 
 ROWS = [*table.COMMANDS, *table.QUESTIONS, *table.CALLS]

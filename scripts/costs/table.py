@@ -8,8 +8,8 @@ from typing import NamedTuple, Tuple
 from costs.growth import BY_BYTES, BY_PARENTS, CONSTANT, LINEAR, LOGARITHMIC, N_LOG_N, SQUARE, Growth
 
 SIZES = {
-    **{"lines": 300, "layers": 25, "alike": 25, "parents": 200, "lists": 100, "prefix": 1000, "steps": 1000, "tower": 1000},
-    **{"marks": 20_000, "message": 300_000, "padding": 300_000, "filters": 100_000},
+    **{"lines": 500, "layers": 25, "alike": 25, "parents": 200, "lists": 100, "prefix": 1000, "steps": 1000, "tower": 1000},
+    **{"marks": 100_000, "message": 300_000, "padding": 300_000, "filters": 100_000},
 }
 """Each shape, and the first of its three sizes."""
 
@@ -58,7 +58,7 @@ COMMANDS = (
     Row("distinct", ("layers",), BY_BYTES, LINEAR),
     Row("find", ("lines", "tower"), LOGARITHMIC, CONSTANT),
     Row("find", ("prefix", "steps"), LOGARITHMIC, LINEAR),
-    Row("find", ("alike",), LINEAR, LINEAR),
+    Row("find", ("alike",), LINEAR, BY_BYTES),
     Row("find", FEW, CONSTANT, CONSTANT),
     Row("ancestor", ("lines", "lists"), LINEAR, LINEAR),
     Row("is-ancestor", ("lines", "lists"), LINEAR, LINEAR),
@@ -104,7 +104,7 @@ def both(name, shapes, instructions, memory):
 
 QUESTIONS = (
     *both("ask find", COMMITS, LOGARITHMIC, CONSTANT),
-    *both("ask find", ("alike",), LINEAR, CONSTANT),
+    *both("ask find", ("alike",), LINEAR, LINEAR),
     *both("ask find", FEW, CONSTANT, CONSTANT),
     *both("ask is-ancestor", ("lines", "lists"), LINEAR, LINEAR),
     Row("ask is-ancestor", ("tower",), LOGARITHMIC, LINEAR),
@@ -122,7 +122,7 @@ QUESTIONS = (
     *both("ask parents", ("alike", "parents", "lists"), LINEAR, LINEAR),
     *both("ask parents", FEW, CONSTANT, CONSTANT),
     Row("ask reload", ("lines", "layers", "lists", "tower"), LINEAR, LINEAR),
-    Row("ask reload", FEW, LINEAR.at_most(0.5), LINEAR),
+    Row("ask reload", FEW, LINEAR.at_most(1), LINEAR),
     Row("ask reload --unchecked", ("lines", "lists", "tower"), LINEAR.at_most(1), CONSTANT),
     Row("ask reload --unchecked", ("layers",), LINEAR, LINEAR),
     Row("ask reload --unchecked", FEW, CONSTANT, CONSTANT),
@@ -198,7 +198,7 @@ CALLS = (
     Row("cg_corrected_dates", ("padding",), CONSTANT, CONSTANT),
     Row("cg_probe_path", (*COMMITS, "layers", "parents", "lists"), LINEAR, LINEAR),
     Row("cg_probe_path", FEW, CONSTANT, CONSTANT),
-    Row("cg_matches", (*COMMITS, "layers", "padding"), CONSTANT, CONSTANT),
+    Row("cg_matches", ("lines", "tower", "layers", "padding"), CONSTANT, CONSTANT),
     Row("cg_matches", ("parents", "lists", "marks", "message"), LINEAR, CONSTANT),
     Row("cg_write", ("lines", "prefix", "tower", "layers", "parents"), LINEAR, LINEAR),
     Row("cg_write", ("lists",), BY_PARENTS, BY_PARENTS),
