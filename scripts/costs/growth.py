@@ -38,8 +38,8 @@ def steps(numbers):
 
 CONSTANT = Growth("constant")
 LOGARITHMIC = Growth("logarithmic", "doublings", 1.4)
-LINEAR = Growth("linear", "size", 1.1)
+LINEAR = Growth("linear", "size", 1.15)
 N_LOG_N = Growth("n log n", "size", 1.25)
-SQUARE = Growth("square", "squares", 1.1)
-BY_BYTES = Growth("linear in the bytes that are read and written", "bytes", 1.1)
-BY_PARENTS = Growth("linear in the parents that all commits have", "parents", 1.1)
+SQUARE = Growth("square", "squares", 1.15)
+BY_BYTES = Growth("linear in the bytes that are read and written", "bytes", 1.15)
+BY_PARENTS = Growth("linear in the parents that all commits have", "parents", 1.15)

@@ -8,7 +8,7 @@ from typing import NamedTuple, Tuple
 from costs.growth import BY_BYTES, BY_PARENTS, CONSTANT, LINEAR, LOGARITHMIC, N_LOG_N, SQUARE, Growth
 
 SIZES = {
-    **{"lines": 500, "layers": 25, "alike": 25, "parents": 200, "lists": 100, "prefix": 1000, "steps": 1000, "tower": 1000},
+    **{"lines": 500, "layers": 25, "alike": 25, "parents": 200, "lists": 80, "prefix": 1000, "steps": 1000, "tower": 1000},
     **{"marks": 100_000, "message": 300_000, "padding": 300_000, "filters": 100_000},
 }
 """Each shape, and the first of its three sizes."""
@@ -62,15 +62,18 @@ COMMANDS = (
     Row("find", FEW, CONSTANT, CONSTANT),
     Row("ancestor", ("lines", "lists"), LINEAR, LINEAR),
     Row("is-ancestor", ("lines", "lists"), LINEAR, LINEAR),
-    Row("is-ancestor --unchecked", ("lines", "steps", "layers", "parents", "lists"), LINEAR, LINEAR),
+    Row("is-ancestor --unchecked", ("lines", "steps", "parents", "lists"), LINEAR, LINEAR),
+    Row("is-ancestor --unchecked", ("layers",), BY_BYTES, BY_BYTES),
     Row("is-ancestor --unchecked", ("tower",), LOGARITHMIC, LOGARITHMIC),
     Row("is-ancestor --unchecked", FEW, CONSTANT, CONSTANT),
     Row("walk", ("lines", "lists"), LINEAR, LINEAR),
-    Row("walk --unchecked", ("lines", "layers", "lists"), LINEAR, LINEAR),
+    Row("walk --unchecked", ("lines", "lists"), LINEAR, LINEAR),
+    Row("walk --unchecked", ("layers",), LINEAR, BY_BYTES),
     Row("walk --unchecked", ("tower",), LOGARITHMIC, LOGARITHMIC),
     Row("walk --unchecked", FEW, CONSTANT, CONSTANT),
     Row("merge-base", ("lines", "parents", "lists"), LINEAR, LINEAR),
-    Row("merge-base --unchecked", ("lines", "layers", "parents", "lists"), LINEAR, LINEAR),
+    Row("merge-base --unchecked", ("lines", "parents", "lists"), LINEAR, LINEAR),
+    Row("merge-base --unchecked", ("layers",), LINEAR, BY_BYTES),
     Row("merge-base --unchecked", ("tower",), LOGARITHMIC, LOGARITHMIC),
     Row("merge-base --unchecked", FEW, CONSTANT, CONSTANT),
     Row("merge-base-ids", ("parents",), LINEAR, LINEAR),
@@ -124,7 +127,7 @@ QUESTIONS = (
     Row("ask reload", ("lines", "layers", "lists", "tower"), LINEAR, LINEAR),
     Row("ask reload", FEW, LINEAR.at_most(1), LINEAR),
     Row("ask reload --unchecked", ("lines", "lists", "tower"), LINEAR.at_most(1), CONSTANT),
-    Row("ask reload --unchecked", ("layers",), LINEAR, LINEAR),
+    Row("ask reload --unchecked", ("layers",), LINEAR, BY_BYTES),
     Row("ask reload --unchecked", FEW, CONSTANT, CONSTANT),
 )
 """The questions, of each what it costs by itself."""
@@ -144,7 +147,7 @@ CALLS = (
     Row("cg_check_within", ("lines", "prefix", "parents", "lists", "padding"), LINEAR, LINEAR),
     Row("cg_check_within", ("layers",), BY_BYTES, LINEAR),
     Row("cg_close", FLAT, CONSTANT, CONSTANT),
-    Row("cg_close", ("layers",), LINEAR, CONSTANT),
+    Row("cg_close", ("layers",), BY_BYTES, CONSTANT),
     Row("cg_flag_new", CALLED, CONSTANT, CONSTANT),
     Row("cg_flag_raise", CALLED, CONSTANT, CONSTANT),
     Row("cg_flag_free", CALLED, CONSTANT, CONSTANT),
@@ -188,9 +191,9 @@ CALLS = (
     Row("cg_is_ancestor_within", ("padding",), CONSTANT, CONSTANT),
     Row("cg_are_ancestors", ("lines", "prefix", "layers", "parents", "lists"), LINEAR, LINEAR),
     Row("cg_are_ancestors", ("padding",), CONSTANT, CONSTANT),
-    Row("cg_merge_bases", ("lines", "prefix", "layers", "parents", "lists"), LINEAR, LINEAR),
+    Row("cg_merge_bases", ("lines", "prefix", "parents", "lists"), LINEAR, LINEAR),
     Row("cg_merge_bases", ("padding",), CONSTANT, CONSTANT),
-    Row("cg_merge_bases_within", ("lines", "prefix", "layers", "parents", "lists"), LINEAR, LINEAR),
+    Row("cg_merge_bases_within", ("lines", "prefix", "parents", "lists"), LINEAR, LINEAR),
     Row("cg_merge_bases_within", ("padding",), CONSTANT, CONSTANT),
     Row("cg_merge_bases_of", ("lines", "prefix", "layers", "parents", "lists"), LINEAR, LINEAR),
     Row("cg_merge_bases_of", ("padding",), CONSTANT, CONSTANT),
