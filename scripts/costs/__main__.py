@@ -10,8 +10,8 @@ counts for nothing. Each answer has to be the one of the plan too. A check refus
 
 Without the programs and the shared library, `scripts/program` and `scripts/library` find them, and prove and build them first where
 a source is newer. A path `-` comes as a line of standard input. NAME is that of a shape, as tower, or of a row, as `ask walk`: then
-only these are counted. With `--large` each size is four times as large. Without valgrind or a C compiler all is left out. The last line
-is `N passed, M failed`.
+only these are counted. With `--large` each size is four times as large. Where valgrind or a C compiler is missing, a line says so, and
+nothing is counted. The last line is `N passed, M failed`.
 """
 
 import os
@@ -22,8 +22,7 @@ import tempfile
 SCRIPTS = os.path.dirname(os.path.dirname(os.path.abspath(__file__)))
 sys.path[:0] = [SCRIPTS]
 
-from costs import shapes, table
-from costs.measured import Counter, Wrong
+from costs import measured, shapes, table
 from later import Later
 from results import Results
 from sizes import built, coverage
@@ -45,21 +44,27 @@ def main(paths, times, names):
     """Counts the costs of all rows, or of those of some names, and answers the exit status."""
     results, later = Results(), Later()
     coverage.check(results, "each command, question and call has a row", [row.asked() for row in ROWS])
-    with tempfile.TemporaryDirectory() as folder:
-        counter = Counter(folder)
-        lacking = next((tool for tool in ("valgrind", "cc") if not shutil.which(tool)), None) or counter.build()
-        if lacking:
-            print("left out, since there is no %s: how the costs of commands, questions and calls grow" % lacking)
-            return results.finish()
-        found = [later.path(path) for path in paths] if paths else built.paths()
-        results.check("each program and the library are built", None if all(found) else "no path of one came")
-        if all(found):
-            tools = built.by_command(found), os.path.splitext(os.path.abspath(found[2]))[0] + ".a"
-            for name in [name for name in table.SIZES if name in names] or table.SIZES:
-                made = laid_out(name, os.path.join(folder, name), times * table.SIZES[name])
-                Counts(results, counter, made, tools, names).run()
-                shutil.rmtree(os.path.join(folder, name))
+    # What writes the paths needs a reader, also where nothing is counted.
+    given, lacking = [later.path(path) for path in paths], measured.lacking()
+    if lacking:
+        print("left out, since there is no %s: how the costs of commands, questions and calls grow" % lacking)
+        return results.finish()
+    found = given or built.paths()
+    results.check("each program and the library are built", None if all(found) else "no path of one came")
+    if all(found):
+        count_all(results, found, times, names)
     return results.finish()
+
+
+def count_all(results, found, times, names):
+    """Counts the costs of the programs and the library at these paths, for one shape after another."""
+    tools = built.by_command(found), os.path.splitext(os.path.abspath(found[2]))[0] + ".a"
+    with tempfile.TemporaryDirectory() as folder:
+        counter = measured.Counter(folder)
+        for name in [name for name in table.SIZES if name in names] or table.SIZES:
+            made = laid_out(name, os.path.join(folder, name), times * table.SIZES[name])
+            Counts(results, counter, made, tools, names).run()
+            shutil.rmtree(os.path.join(folder, name))
 
 
 def laid_out(name, folder, size):
@@ -105,7 +110,7 @@ class Counts:
         """Counts for some rows a check each of how their costs grow."""
         try:
             told = [count(shape) for shape in self.made] if rows else []
-        except Wrong as wrong:
+        except measured.Wrong as wrong:
             told = [dict.fromkeys([row.asked().name for row in rows], str(wrong))]
         for row in rows:
             self.judge_row(row, [costs[row.asked().name] for costs in told])

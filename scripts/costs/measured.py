@@ -14,10 +14,11 @@ from sizes import answers, asking, library, table
 
 HERE = os.path.dirname(os.path.abspath(__file__))
 COUNTING = os.path.join(HERE, "counting.c")
+HEADER = "valgrind/callgrind.h"
 PART = re.compile(r"^totals: (\d+)$", re.MULTILINE)
 """What valgrind counted up to some place."""
 
-SECONDS = 600
+SECONDS = 1800
 """A run that takes longer hangs."""
 
 PREFIX = "counted_"
@@ -39,22 +40,22 @@ class Wrong(Exception):
     """An answer is not the one that the plan says, or nothing was counted."""
 
 
+def lacking():
+    """What is missing here for counting, or None."""
+    missing = next((tool for tool in ("valgrind", "cc") if not shutil.which(tool)), None)
+    if missing:
+        return missing
+    found = subprocess.run(["cc", "-E", "-include", HEADER, "-x", "c", os.devnull], capture_output=True, check=False)
+    return None if found.returncode == 0 else "header " + HEADER
+
+
 class Counter:
     """Counts in a folder of its own."""
 
     def __init__(self, folder):
         self.folder, self.counting = folder, os.path.join(folder, "counting.so")
         self.counts, self.memory, self.path = os.path.join(folder, "counts"), os.path.join(folder, "memory"), shutil.which("valgrind")
-
-    def build(self):
-        """Builds what counts memory. Answers what is missing for that, or None."""
-        words = ["-shared", "-fPIC", "-O1", COUNTING, "-o", self.counting]
-        done = subprocess.run(["cc", *words], capture_output=True, text=True, check=False)
-        if done.returncode == 0:
-            return None
-        if "callgrind.h" in done.stderr:
-            return "header valgrind/callgrind.h"
-        raise Wrong(done.stderr)
+        subprocess.check_call(["cc", "-shared", "-fPIC", "-O1", COUNTING, "-o", self.counting])
 
     def libraries(self, archive, count):
         """The paths of so many equal libraries, in which each call is made by a function of C. Valgrind finds the call behind that: it
