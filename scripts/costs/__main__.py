@@ -18,6 +18,7 @@ import os
 import shutil
 import sys
 import tempfile
+from functools import partial
 
 SCRIPTS = os.path.dirname(os.path.dirname(os.path.abspath(__file__)))
 sys.path[:0] = [SCRIPTS]
@@ -44,6 +45,8 @@ def main(paths, times, names):
     """Counts the costs of all rows, or of those of some names, and answers the exit status."""
     results, later = Results(), Later()
     coverage.check(results, "each command, question and call has a row", [row.asked() for row in ROWS])
+    unknown = {name for row in ROWS for name in row.shapes}.difference(table.SIZES)
+    results.check("each shape of a row has a size", "there is no %s" % sorted(unknown) if unknown else None)
     # What writes the paths needs a reader, also where nothing is counted.
     given, lacking = [later.path(path) for path in paths], measured.lacking()
     if lacking:
@@ -92,31 +95,34 @@ class Counts:
     def run(self):
         """Counts them."""
         for row in self.of(table.COMMANDS):
-            self.judge([row], lambda shape, row=row: {row.name: self.counter.of_command(self.programs, named(asked.COMMANDS, row), shape)})
+            self.judge([row], partial(self.of_command, row))
         for flags in ([], ["--unchecked"]):
             rows = [row for row in self.of(table.QUESTIONS) if row.flags() == flags]
-            told = [named(asked.QUESTIONS, row) for row in rows]
-            self.judge(rows, lambda shape, told=told, flags=flags: self.counter.of_questions(self.programs["ask"], told, shape, flags))
-        rows, kept = self.of(table.CALLS), []
-        self.judge(rows, lambda shape: self.of_calls([row.name for row in rows], kept)[self.made.index(shape)])
+            self.judge(rows, partial(self.of_questions, rows, flags))
+        rows = self.of(table.CALLS)
+        self.judge(rows, lambda: self.counter.of_calls(self.archive, [row.name for row in rows], self.made))
 
-    def of_calls(self, names, kept):
-        """What the calls of these names cost at each size. They are made once, and what they cost is kept."""
-        if not kept:
-            kept.extend(self.counter.of_calls(self.archive, names, self.made))
-        return kept
+    def of_command(self, row):
+        """What the command of a row costs at each size."""
+        told = named(asked.COMMANDS, row)
+        return [{row.name: self.counter.of_command(self.programs, told, shape)} for shape in self.made]
+
+    def of_questions(self, rows, flags):
+        """What the questions of some rows cost at each size."""
+        told = [named(asked.QUESTIONS, row) for row in rows]
+        return [self.counter.of_questions(self.programs["ask"], told, shape, flags) for shape in self.made]
 
     def judge(self, rows, count):
-        """Counts for some rows a check each of how their costs grow."""
+        """Counts what some rows cost, and two checks of each: how its instructions and its memory grow."""
         try:
-            told = [count(shape) for shape in self.made] if rows else []
+            told = count() if rows else []
         except measured.Wrong as wrong:
             told = [dict.fromkeys([row.asked().name for row in rows], str(wrong))]
         for row in rows:
             self.judge_row(row, [costs[row.asked().name] for costs in told])
 
     def judge_row(self, row, costs):
-        """Counts two checks of how the costs of a row grow."""
+        """Counts the checks of a row, or one where it was not counted."""
         wrong = next((cost for cost in costs if isinstance(cost, str)), None)
         if wrong:
             self.results.check("%s: %s" % (self.made[0].name, row.name), wrong)
