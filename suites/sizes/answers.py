@@ -55,10 +55,11 @@ FILTERS = (1, 7, 10)
 
 
 def chunk_sizes(content):
-    """The name and the bytes of each chunk of a file."""
+    """The name and the bytes of each chunk of a file that Git's format names: not of the padding."""
     table = [content[at : at + 12] for at in range(8, 8 + 12 * (content[6] + 1), 12)]
     starts = [int.from_bytes(entry[4:], "big") for entry in table]
-    return ("%s %d" % (entry[:4].decode(), end - start) for entry, start, end in zip(table, starts, starts[1:]))
+    names = [entry[:4].decode() for entry in table]
+    return ("%s %d" % (name, end - start) for name, start, end in zip(names, starts, starts[1:]) if name != "XPAD")
 
 
 def found(shape, number):

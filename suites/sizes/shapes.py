@@ -111,13 +111,13 @@ def padded(kind, length=100 * 2**20):
     return small(kind, "padded", padding=length)
 
 
-def chain(kind, layers=256, each=4, others=MANY):
+def chain(kind, layers=256, each=4, others=MANY, ids=None):
     """A chain of layers with `each` commits in each: a line, in which the last commit of each layer but the first has one of the layer
     before as its second parent, and the first commit but one as its third. It is compared with the first ones of the last layers."""
     parents = [()] + [(number - 1,) for number in range(1, layers * each)]
     for last in range(2 * each - 1, layers * each, each):
         parents[last] = (last - 1, last - each - 1, 1)
-    plan = Plan(kind, parents, [each] * layers)
+    plan = Plan(kind, parents, [each] * layers, ids=ids)
     tip = layers * each - 1
     others = [number * each for number in range(layers - others, layers)]
     walk = [tip, 1, 0]

@@ -1,0 +1,223 @@
+"""The table: for each command, question and call of the library for C, how its instructions and the bytes that it asks of the heap may
+grow with shapes that are made to do harm. What is new joins by a row here, behind its row in the table of suites/sizes, which says what
+it is asked.
+"""
+
+from typing import NamedTuple, Tuple
+
+from costs.growth import BY_BYTES, BY_PARENTS, CONSTANT, LINEAR, LOGARITHMIC, N_LOG_N, SQUARE, Growth
+
+SIZES = {
+    **{"lines": 500, "layers": 25, "alike": 25, "parents": 200, "lists": 80, "prefix": 1000, "steps": 1000, "tower": 1000},
+    **{"marks": 100_000, "message": 300_000, "padding": 300_000, "filters": 100_000},
+}
+"""Each shape, and the first of its three sizes."""
+
+COMMITS = ("lines", "prefix", "steps", "tower")
+"""The shapes in which only commits become more: an id is found in a logarithm of them."""
+
+FLAT = (*COMMITS, "parents", "padding")
+"""Those whose layers do not become more."""
+
+CALLED = (*FLAT, "layers", "lists")
+"""The shapes that the calls are asked about."""
+
+FEW = ("padding", "filters")
+"""Those whose commits do not become more."""
+
+UNCHECKED = " --unchecked"
+
+
+class Row(NamedTuple):
+    """How the costs of a command, a question or a call may grow with some shapes. `name` is that of a row in the table of suites/sizes,
+    and behind the name of a question `--unchecked` where it is asked of a graph that is not checked."""
+
+    name: str
+    shapes: Tuple[str, ...]
+    instructions: Growth
+    memory: Growth
+
+    def flags(self):
+        """The words behind `ask`."""
+        return [UNCHECKED.strip()] if self.name.endswith(UNCHECKED) else []
+
+    def asked(self):
+        """The row with the name in the other table."""
+        is_question = self.name.startswith("ask ")
+        return self._replace(name=self.name.replace(UNCHECKED, "") if is_question else self.name)
+
+
+COMMANDS = (
+    Row("list", ("lines", "parents"), LINEAR.at_most(6), LINEAR),
+    Row("list", ("layers",), LINEAR, LINEAR),
+    Row("list", ("lists",), BY_PARENTS, LINEAR),
+    Row("list", ("padding",), LINEAR.at_most(0.5), LINEAR),
+    Row("verify", ("lines", "parents", "prefix", "lists", *FEW), LINEAR, LINEAR),
+    Row("verify", ("layers",), BY_BYTES, LINEAR),
+    Row("distinct", ("lines", "prefix", "tower"), LINEAR, LINEAR),
+    Row("distinct", ("layers",), BY_BYTES, LINEAR),
+    Row("find", ("lines", "tower"), LOGARITHMIC, CONSTANT),
+    Row("find", ("prefix", "steps"), LOGARITHMIC, LINEAR),
+    Row("find", ("alike",), LINEAR, BY_BYTES),
+    Row("find", FEW, CONSTANT, CONSTANT),
+    Row("ancestor", ("lines", "lists"), LINEAR, LINEAR),
+    Row("is-ancestor", ("lines", "lists"), LINEAR, LINEAR),
+    Row("is-ancestor --unchecked", ("lines", "steps", "parents", "lists"), LINEAR, LINEAR),
+    Row("is-ancestor --unchecked", ("layers",), BY_BYTES, BY_BYTES),
+    Row("is-ancestor --unchecked", ("tower",), LOGARITHMIC, LOGARITHMIC),
+    Row("is-ancestor --unchecked", FEW, CONSTANT, CONSTANT),
+    Row("walk", ("lines", "lists"), LINEAR, LINEAR),
+    Row("walk --unchecked", ("lines", "lists"), LINEAR, LINEAR),
+    Row("walk --unchecked", ("layers",), LINEAR, BY_BYTES),
+    Row("walk --unchecked", ("tower",), LOGARITHMIC, LOGARITHMIC),
+    Row("walk --unchecked", FEW, CONSTANT, CONSTANT),
+    Row("merge-base", ("lines", "parents", "lists"), LINEAR, LINEAR),
+    Row("merge-base --unchecked", ("lines", "parents", "lists"), LINEAR, LINEAR),
+    Row("merge-base --unchecked", ("layers",), LINEAR, BY_BYTES),
+    Row("merge-base --unchecked", ("tower",), LOGARITHMIC, LOGARITHMIC),
+    Row("merge-base --unchecked", FEW, CONSTANT, CONSTANT),
+    Row("merge-base-ids", ("parents",), LINEAR, LINEAR),
+    Row("merge-base-ids --unchecked", ("parents",), LINEAR, LINEAR),
+    Row("merge-base-ids --unchecked", ("tower",), LOGARITHMIC, LOGARITHMIC),
+    Row("merge-base-ids --unchecked", FEW, CONSTANT, CONSTANT),
+    Row("check", ("lines", "lists", *FEW), LINEAR, LINEAR),
+    Row("check", ("layers",), BY_BYTES, LINEAR),
+    Row("show", ("lines", "lists", *FEW), LINEAR, LINEAR),
+    Row("show", ("layers",), BY_BYTES, LINEAR),
+    Row("ids", ("lines",), LINEAR.at_most(4), LINEAR),
+    Row("ids", ("layers",), LINEAR, LINEAR),
+    Row("ids", ("padding",), LINEAR.at_most(0.5), LINEAR),
+    Row("objects", ("lines", "parents", "tower", "marks", "message"), LINEAR, LINEAR),
+    Row("objects", ("lists",), BY_PARENTS, LINEAR),
+    Row("write", ("lines", "parents", "marks", "message"), LINEAR, LINEAR),
+    Row("write", ("lists",), BY_PARENTS, BY_PARENTS),
+    Row("write: on top", ("tower",), LINEAR, LINEAR),
+    Row("write: on top", ("layers",), BY_BYTES, LINEAR),
+    Row("merge", ("lines", "prefix", "steps", "filters"), LINEAR, LINEAR),
+    Row("merge", ("layers",), BY_BYTES, LINEAR),
+    Row("merge", ("lists",), BY_PARENTS, BY_PARENTS),
+)
+"""The commands."""
+
+
+def both(name, shapes, instructions, memory):
+    """The rows of a question of a graph that is checked, and of one that is not."""
+    return Row(name, shapes, instructions, memory), Row(name + UNCHECKED, shapes, instructions, memory)
+
+
+QUESTIONS = (
+    *both("ask find", COMMITS, LOGARITHMIC, CONSTANT),
+    *both("ask find", ("alike",), LINEAR, LINEAR),
+    *both("ask find", FEW, CONSTANT, CONSTANT),
+    *both("ask is-ancestor", ("lines", "lists"), LINEAR, LINEAR),
+    Row("ask is-ancestor", ("tower",), LOGARITHMIC, LINEAR),
+    Row("ask is-ancestor --unchecked", ("tower",), LOGARITHMIC, LOGARITHMIC),
+    *both("ask is-ancestor", FEW, CONSTANT, CONSTANT),
+    *both("ask walk", ("lines", "lists"), LINEAR, LINEAR),
+    Row("ask walk", ("tower",), LOGARITHMIC, LINEAR),
+    Row("ask walk --unchecked", ("tower",), LOGARITHMIC, LOGARITHMIC),
+    *both("ask walk", FEW, CONSTANT, CONSTANT),
+    *both("ask merge-base", ("lines", "parents", "lists"), LINEAR, LINEAR),
+    Row("ask merge-base", ("tower",), LOGARITHMIC, LINEAR),
+    Row("ask merge-base --unchecked", ("tower",), LOGARITHMIC, LOGARITHMIC),
+    *both("ask merge-base", FEW, CONSTANT, CONSTANT),
+    *both("ask parents", COMMITS, LOGARITHMIC, CONSTANT),
+    *both("ask parents", ("alike", "parents", "lists"), LINEAR, LINEAR),
+    *both("ask parents", FEW, CONSTANT, CONSTANT),
+    Row("ask reload", ("lines", "lists", "tower"), LINEAR.at_most(6), LINEAR),
+    Row("ask reload", ("layers",), LINEAR.at_most(15), LINEAR),
+    Row("ask reload", FEW, LINEAR.at_most(1), LINEAR),
+    Row("ask reload --unchecked", ("lines", "lists", "tower"), LINEAR.at_most(1), CONSTANT),
+    Row("ask reload --unchecked", ("layers",), LINEAR, BY_BYTES),
+    Row("ask reload --unchecked", FEW, CONSTANT, CONSTANT),
+)
+"""The questions, of each what it costs by itself."""
+
+CALLS = (
+    Row("cg_version", CALLED, CONSTANT, CONSTANT),
+    Row("cg_open", ("lines", "prefix", "parents", "lists", "padding"), LINEAR.at_most(3), LINEAR),
+    Row("cg_open", ("layers",), LINEAR.at_most(15), BY_BYTES),
+    Row("cg_open_lent", ("lines", "prefix", "parents", "lists"), LINEAR.at_most(3), LINEAR),
+    Row("cg_open_lent", ("layers",), LINEAR.at_most(15), LINEAR),
+    Row("cg_open_lent", ("padding",), CONSTANT, CONSTANT),
+    Row("cg_open_known", ("lines", "layers", "prefix", "parents", "lists", "padding"), LINEAR.at_most(1), LINEAR),
+    Row("cg_open_checked", ("lines", "prefix", "parents", "lists", "padding"), LINEAR, LINEAR),
+    Row("cg_open_checked", ("layers",), BY_BYTES, BY_BYTES),
+    Row("cg_check", ("lines", "prefix", "parents", "lists", "padding"), LINEAR, LINEAR),
+    Row("cg_check", ("layers",), BY_BYTES, LINEAR),
+    Row("cg_check_within", ("lines", "prefix", "parents", "lists", "padding"), LINEAR, LINEAR),
+    Row("cg_check_within", ("layers",), BY_BYTES, LINEAR),
+    Row("cg_close", FLAT, CONSTANT, CONSTANT),
+    Row("cg_close", ("layers",), BY_BYTES, CONSTANT),
+    Row("cg_flag_new", CALLED, CONSTANT, CONSTANT),
+    Row("cg_flag_raise", CALLED, CONSTANT, CONSTANT),
+    Row("cg_flag_free", CALLED, CONSTANT, CONSTANT),
+    Row("cg_num_commits", CALLED, CONSTANT, CONSTANT),
+    Row("cg_id_len", CALLED, CONSTANT, CONSTANT),
+    Row("cg_num_layers", CALLED, CONSTANT, CONSTANT),
+    Row("cg_layer", CALLED, CONSTANT, CONSTANT),
+    Row("cg_layer_checksum", CALLED, CONSTANT, CONSTANT),
+    Row("cg_base_id_at", CALLED, CONSTANT, CONSTANT),
+    Row("cg_lookup", FLAT, LOGARITHMIC, CONSTANT),
+    Row("cg_lookup", ("alike",), LINEAR, CONSTANT),
+    Row("cg_lookup_all", (*FLAT, "lists"), N_LOG_N, CONSTANT),
+    Row("cg_lookup_all", ("alike",), SQUARE, CONSTANT),
+    Row("cg_id_at", CALLED, CONSTANT, CONSTANT),
+    Row("cg_tree_at", CALLED, CONSTANT, CONSTANT),
+    Row("cg_lend_id", CALLED, CONSTANT, CONSTANT),
+    Row("cg_lend_tree", CALLED, CONSTANT, CONSTANT),
+    Row("cg_ids_at", (*FLAT, "lists"), LINEAR, CONSTANT),
+    Row("cg_ids_at", ("layers",), N_LOG_N, CONSTANT),
+    Row("cg_commit_at", CALLED, CONSTANT, CONSTANT),
+    Row("cg_generation_at", CALLED, CONSTANT, CONSTANT),
+    Row("cg_commits", CALLED, LINEAR, CONSTANT),
+    Row("cg_parents", (*COMMITS, "layers", "padding"), CONSTANT, CONSTANT),
+    Row("cg_parents", ("parents", "lists"), LINEAR, CONSTANT),
+    Row("cg_first_parents", (*COMMITS, "layers", "padding"), CONSTANT, CONSTANT),
+    Row("cg_first_parents", ("parents", "lists"), LINEAR, CONSTANT),
+    Row("cg_first_parent", (*COMMITS, "parents", "padding"), CONSTANT, CONSTANT),
+    Row("cg_parents_from", (*FLAT, "layers"), LINEAR, CONSTANT),
+    Row("cg_parents_from", ("lists",), BY_PARENTS, CONSTANT),
+    Row("cg_verify", ("lines", "prefix", "parents", "lists", "padding"), LINEAR, LINEAR),
+    Row("cg_verify", ("layers",), BY_BYTES, LINEAR),
+    Row("cg_verify_layer", ("lines", "prefix", "parents", "lists", "padding"), LINEAR, LINEAR),
+    Row("cg_verify_layer", ("layers",), LINEAR.at_most(1), CONSTANT),
+    Row("cg_ancestor_walk", ("lines", "prefix", "layers", "parents", "lists"), LINEAR, LINEAR),
+    Row("cg_ancestor_walk", ("tower",), LOGARITHMIC, LINEAR),
+    Row("cg_ancestor_walk", ("padding",), CONSTANT, CONSTANT),
+    Row("cg_ancestor_walk_within", ("lines", "prefix", "layers", "parents", "lists"), LINEAR, LINEAR),
+    Row("cg_ancestor_walk_within", ("tower",), LOGARITHMIC, LINEAR),
+    Row("cg_ancestor_walk_within", ("padding",), CONSTANT, CONSTANT),
+    Row("cg_is_ancestor", ("lines", "prefix", "layers", "parents", "lists"), LINEAR, LINEAR),
+    Row("cg_is_ancestor", ("tower",), LOGARITHMIC, LINEAR),
+    Row("cg_is_ancestor", ("padding",), CONSTANT, CONSTANT),
+    Row("cg_is_ancestor_within", ("lines", "prefix", "layers", "parents", "lists"), LINEAR, LINEAR),
+    Row("cg_is_ancestor_within", ("tower",), LOGARITHMIC, LINEAR),
+    Row("cg_is_ancestor_within", ("padding",), CONSTANT, CONSTANT),
+    Row("cg_are_ancestors", ("lines", "prefix", "layers", "parents", "lists"), LINEAR, LINEAR),
+    Row("cg_are_ancestors", ("tower",), LOGARITHMIC, LINEAR),
+    Row("cg_are_ancestors", ("padding",), CONSTANT, CONSTANT),
+    Row("cg_merge_bases", ("lines", "prefix", "parents", "lists"), LINEAR, LINEAR),
+    Row("cg_merge_bases", ("tower",), LOGARITHMIC, LINEAR),
+    Row("cg_merge_bases", ("padding",), CONSTANT, CONSTANT),
+    Row("cg_merge_bases_within", ("lines", "prefix", "parents", "lists"), LINEAR, LINEAR),
+    Row("cg_merge_bases_within", ("tower",), LOGARITHMIC, LINEAR),
+    Row("cg_merge_bases_within", ("padding",), CONSTANT, CONSTANT),
+    Row("cg_merge_bases_of", ("lines", "prefix", "layers", "parents", "lists"), LINEAR, LINEAR),
+    Row("cg_merge_bases_of", ("tower",), LOGARITHMIC, LINEAR),
+    Row("cg_merge_bases_of", ("padding",), CONSTANT, CONSTANT),
+    Row("cg_corrected_dates", (*COMMITS, "layers", "parents", "lists"), LINEAR.at_most(2), LINEAR),
+    Row("cg_corrected_dates", ("padding",), CONSTANT, CONSTANT),
+    Row("cg_probe_path", (*COMMITS, "layers", "parents", "lists"), LINEAR.at_most(1), LINEAR),
+    Row("cg_probe_path", FEW, CONSTANT, CONSTANT),
+    Row("cg_matches", ("lines", "tower", "layers", "padding"), CONSTANT, CONSTANT),
+    Row("cg_matches", ("parents", "lists", "marks", "message"), LINEAR, CONSTANT),
+    Row("cg_write", ("lines", "prefix", "tower", "layers", "parents"), LINEAR, LINEAR),
+    Row("cg_write", ("lists",), BY_PARENTS, BY_PARENTS),
+    Row("cg_write", ("padding",), CONSTANT, CONSTANT),
+    Row("cg_bytes_copy", ("lines", "prefix", "layers", "parents"), LINEAR, CONSTANT),
+    Row("cg_lend_bytes", CALLED, CONSTANT, CONSTANT),
+    Row("cg_bytes_free", CALLED, CONSTANT, CONSTANT),
+    Row("cg_chain_line", ("lines", "prefix"), LINEAR, CONSTANT),
+)
+"""The calls of the library."""
