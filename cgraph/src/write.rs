@@ -27,7 +27,7 @@ use crate::question::Question;
 use crate::session::{signal_in, UNREAD};
 use crate::system::{may, Right};
 use crate::target::{refuse_making, Halt, Target};
-use crate::text::{quoted, shown};
+use crate::text::{quoted, shown, text_of};
 
 const NEW: &str = "new";
 const CHAIN_FILE: &str = "commit-graph-chain";
@@ -339,10 +339,15 @@ impl Writer<'_> {
         if self.question.named().is_some() {
             git.args(["-c", "core.commitGraph=false"]);
         }
-        git.arg("rev-list").args(options).arg("--glob=refs/*").stdout(file);
-        match session.status(&mut git) {
-            0 => Ok(path),
-            _ => Err(self.refuse_listing()),
+        git.arg("rev-list").args(options).arg("--glob=refs/*").stdout(file).stderr(Stdio::piped());
+        let ended = session.spawn(&mut git).and_then(Child::wait_with_output);
+        session.guard.stop_where_ending();
+        match ended {
+            Ok(ended) if ended.status.success() => Ok(path),
+            ended => {
+                session.tell(&text_of(&ended.map_or(Vec::new(), |ended| ended.stderr)));
+                Err(self.refuse_listing())
+            }
         }
     }
 

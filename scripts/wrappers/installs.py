@@ -6,7 +6,7 @@ import subprocess
 import tempfile
 
 import version
-from wrappers.clone import PROGRAMS, TOP, Clone, exactly, run
+from wrappers.clone import BUILT, PROGRAMS, TOP, Clone, exactly, run
 from wrappers.questions import make_repository
 from wrappers.table import commands, usage
 from wrappers.tools import read, usage_of
@@ -20,14 +20,8 @@ INSTALLED = {
     *("share/bash-completion/completions/git-cgraph", "lib/git-cgraph/installed", "lib/git-cgraph/VERSION"),
     *("lib/git-cgraph/git-cgraph", "lib/git-cgraph/graphtool", "lib/git-cgraph/historytool"),
     *("lib/git-cgraph/programs/graphtool", "lib/git-cgraph/programs/historytool"),
-    *("lib/git-cgraph/docs/MANUAL.md", "lib/git-cgraph/docs/REFUSALS.md"),
+    *("lib/git-cgraph/docs/REFUSALS.md", "lib/git-cgraph/scripts/explain.awk"),
     *("lib/git-cgraph/scripts/answers.sh", "lib/git-cgraph/scripts/usage.sh", "lib/git-cgraph/scripts/commands"),
-    *("lib/git-cgraph/scripts/explain.awk", "lib/git-cgraph/scripts/manual.awk", "lib/git-cgraph/scripts/alternates.awk"),
-    *("lib/git-cgraph/scripts/repository.sh", "lib/git-cgraph/scripts/anew.sh", "lib/git-cgraph/scripts/cures.sh"),
-    *("lib/git-cgraph/scripts/progress.sh", "lib/git-cgraph/scripts/objects.sh", "lib/git-cgraph/scripts/show.sh"),
-    *("lib/git-cgraph/scripts/locks.sh", "lib/git-cgraph/scripts/write.sh", "lib/git-cgraph/scripts/new_commits.awk"),
-    *("lib/git-cgraph/scripts/guard.sh", "lib/git-cgraph/scripts/question.sh"),
-    *("lib/git-cgraph/scripts/json.sh", "lib/git-cgraph/scripts/json.awk", "lib/git-cgraph/scripts/fields", "lib/git-cgraph/scripts/fields.awk"),
     *("share/doc/git-cgraph/LICENSE-MIT", "share/doc/git-cgraph/LICENSE-APACHE", "share/doc/git-cgraph/DIFFERENCES.md"),
 }
 OF_LIBRARY = {
@@ -322,8 +316,8 @@ def check_completion(results, clone, repository):
         print("left out, since there is no completion of Git's for bash: that of git cgraph")
         return
     ours = os.path.join(clone.folder, "completion")
-    made = 'awk -v shell=bash -f scripts/completions.awk scripts/commands docs/MANUAL.md >"$1"'
-    subprocess.run(["sh", "-c", made, "sh", ours], cwd=TOP, check=True)
+    with open(ours, "wb") as file:
+        subprocess.run([os.path.join(TOP, BUILT[1]), "completion", "bash"], stdout=file, check=True)
     for words, offered in {
         ("ver",): {"verify"},
         ("",): {command.word for command in commands() if command.by_git},
