@@ -1,4 +1,5 @@
-//! How a question is answered: what is asked of which program, what is said beside the answer, and how all of that ends.
+//! How a question is answered: what is asked of which program, what is said beside the answer, and
+//! how all of that ends.
 
 use std::env;
 use std::fs::File;
@@ -30,7 +31,7 @@ pub const NO_ANSWER: i32 = 128;
 /// Why a question cannot be asked, and what may be done about that.
 struct Trouble {
     error: Error,
-    known: Known,
+    known: Box<Known>,
 }
 
 impl From<Error> for Trouble {
@@ -41,7 +42,7 @@ impl From<Error> for Trouble {
                 "see whether its disk is full, or let TMPDIR name another folder".to_owned();
             known.cure = vec![format!("df {}", quoted(folder))];
         }
-        Trouble { error, known }
+        Trouble { error, known: Box::new(known) }
     }
 }
 
@@ -88,7 +89,8 @@ fn head_of(words: &Words, status: i32, repository: Option<&Path>) -> Object {
     head
 }
 
-/// Asks a question. The folder by which an object names the repository is told as soon as it is known.
+/// Asks a question. The folder by which an object names the repository is told as soon as it is
+/// known.
 fn ask(
     session: &Session,
     words: &Words,
@@ -138,7 +140,7 @@ fn of_revisions(question: &Question, error: Error) -> Trouble {
         known.advice = "see which objects are missing or damaged".to_owned();
         known.cure = vec![format!("{} fsck", question.git_here())];
     }
-    Trouble { error, known }
+    Trouble { error, known: Box::new(known) }
 }
 
 /// The case of the answer, most of which was written.
@@ -192,8 +194,8 @@ impl<'a> Asked<'a> {
     }
 }
 
-/// Asks a program about the commit-graph that is there, and once more where it is another one after a refusal: somebody may have
-/// written it meanwhile.
+/// Asks a program about the commit-graph that is there, and once more where it is another one after
+/// a refusal: somebody may have written it meanwhile.
 pub fn ask_program<'a>(
     question: &'a Question<'a>,
     asked: Asked,
@@ -238,8 +240,8 @@ pub fn ask_program<'a>(
     Ok(case)
 }
 
-/// Asks both programs for all that they check: `distinct` of the one, whose lines are those of `verify`, and then `check` of the
-/// other, with the lines on dates and filters.
+/// Asks both programs for all that they check: `distinct` of the one, whose lines are those of
+/// `verify`, and then `check` of the other, with the lines on dates and filters.
 fn ask_all<'a>(question: &'a Question<'a>, sink: &mut dyn Sink) -> Result<Case<'a>, Error> {
     let historytool = question.session.program(Tool::Historytool)?;
     let graphtool = question.session.program(Tool::Graphtool)?;
@@ -250,8 +252,8 @@ fn ask_all<'a>(question: &'a Question<'a>, sink: &mut dyn Sink) -> Result<Case<'
     ask_program(question, Asked::other(&historytool, "check"), sink)
 }
 
-/// Asks for the check of the commit-graph and then for that of its commits, and once more where it is another one meanwhile. The
-/// lines of the first check are held back until then.
+/// Asks for the check of the commit-graph and then for that of its commits, and once more where it
+/// is another one meanwhile. The lines of the first check are held back until then.
 fn verify_objects<'a>(question: &'a Question<'a>, sink: &mut dyn Sink) -> Result<Case<'a>, Error> {
     const TRIES: usize = 2;
     let historytool = question.session.program(Tool::Historytool)?;
@@ -300,7 +302,8 @@ fn finish(mut case: Case, sink: &mut dyn Sink) -> i32 {
     end(case)
 }
 
-/// Takes it for right that there is no commit-graph, where `--if-exists` says so. Layers whose chain file is lost are not right.
+/// Takes it for right that there is no commit-graph, where `--if-exists` says so. Layers whose
+/// chain file is lost are not right.
 fn allow_none(case: &mut Case) {
     let is_unopened = matches!(case.answer.line.as_str(), "refused open 1" | "refused open 2");
     if case.question.options().if_exists
@@ -314,8 +317,8 @@ fn allow_none(case: &mut Case) {
     }
 }
 
-/// Sees to it that it is said where Git's answer may be another, since a commit stands in two layers of a chain. The program
-/// `graphtool` tells whether one does, if it is there.
+/// Sees to it that it is said where Git's answer may be another, since a commit stands in two
+/// layers of a chain. The program `graphtool` tells whether one does, if it is there.
 fn look_for_repeated(case: &mut Case) {
     let line = case.answer.line.as_str();
     let is_digit = |line: &str| {
@@ -397,8 +400,9 @@ fn end(mut case: Case) -> i32 {
     status
 }
 
-/// The status to end with: 1 says that the commit-graph is wrong, or the answer no or none. A command that takes no revision checks
-/// the commit-graph, but for those that list commits or answer questions.
+/// The status to end with: 1 says that the commit-graph is wrong, or the answer no or none. A
+/// command that takes no revision checks the commit-graph, but for those that list commits or
+/// answer questions.
 fn ending(case: &Case, answered: &str) -> i32 {
     let status = case.answer.status;
     let unanswered = status.max(NO_ANSWER);

@@ -1,4 +1,5 @@
-//! `git cgraph ask`: lets `historytool` answer the questions on standard input, and says what refusals among the answers mean.
+//! `git cgraph ask`: lets `historytool` answer the questions on standard input, and says what
+//! refusals among the answers mean.
 
 use std::path::Path;
 use std::process::Stdio;
@@ -17,9 +18,9 @@ use crate::scratch::Scratch;
 use crate::session::{Passed, Session};
 use crate::text::text_of;
 
-/// Lets the program answer. The folder is opened, so that `reload` finds the chain that takes the place of a file. Where that is
-/// refused, the file is asked about by itself: of the folder the program would say that there is no chain. Of a commit-graph that
-/// is refused nothing is read.
+/// Lets the program answer. The folder is opened, so that `reload` finds the chain that takes the
+/// place of a file. Where that is refused, the file is asked about by itself: of the folder the
+/// program would say that there is no chain. Of a commit-graph that is refused nothing is read.
 pub fn ask<'a>(question: &'a Question<'a>, historytool: &Path) -> Result<Case<'a>, Error> {
     thread::scope(|scope| {
         let (sender, lines) = mpsc::channel();
@@ -77,8 +78,8 @@ impl Sink for Answers<'_> {
     }
 }
 
-/// Says what refusals among answers mean, each once for the same commit-graph. Of a question that is none, of one for which memory
-/// ran out, and of the end of the questions, nothing is said here.
+/// Says what refusals among answers mean, each once for the same commit-graph. Of a question that
+/// is none, of one for which memory ran out, and of the end of the questions, nothing is said here.
 fn tell_refusals(question: &Question, historytool: &Path, lines: &Receiver<String>) {
     let mut before: Option<(String, Option<Stamp>)> = None;
     for line in lines {
@@ -99,8 +100,9 @@ fn tell_refusals(question: &Question, historytool: &Path, lines: &Receiver<Strin
     }
 }
 
-/// Says what a refusal means. Where the file of the commit-graph is refused, the program speaks of the chain, which is not there:
-/// what is wrong with the file is asked of it by itself. Files of a moment have a folder of their own.
+/// Says what a refusal means. Where the file of the commit-graph is refused, the program speaks of
+/// the chain, which is not there: what is wrong with the file is asked of it by itself. Files of a
+/// moment have a folder of their own.
 fn tell_refusal(question: &Question, historytool: &Path, line: &str) {
     let session = question.session;
     let scratch = Scratch::new(&session.guard);

@@ -1,7 +1,9 @@
-//! The completion of `git cgraph` for shells, of the table of commands and the options in the manual.
+//! The completion of `git cgraph` for shells, of the table of commands and the options in the
+//! manual.
 //!
-//! bash reads its own with `source`, after Git's completion, which finds it also in share/bash-completion/completions. That of zsh
-//! belongs into a folder of its `fpath`, and that of fish into one of `fish_complete_path`.
+//! bash reads its own with `source`, after Git's completion, which finds it also in
+//! share/bash-completion/completions. That of zsh belongs into a folder of its `fpath`, and that of
+//! fish into one of `fish_complete_path`.
 
 use crate::commands;
 use crate::help::{commands_before, first_word, MANUAL};
@@ -25,7 +27,8 @@ struct Command {
     takes_commits: bool,
 }
 
-/// An option: what it takes, what it does, the commands that it is for, if it is for some alone, or the one that it is not for.
+/// An option: what it takes, what it does, the commands that it is for, if it is for some alone, or
+/// the one that it is not for.
 struct Opt {
     name: String,
     takes: String,

@@ -1,4 +1,5 @@
-//! The commands by which a commit-graph becomes right. None of them changes anything outside of this repository.
+//! The commands by which a commit-graph becomes right. None of them changes anything outside of
+//! this repository.
 
 use std::fs;
 use std::path::{Path, PathBuf};
@@ -78,7 +79,8 @@ impl Links {
         self.paths.is_empty()
     }
 
-    /// The commands that remove them. A file `alternates` behind one, by which this repository borrows objects, stays.
+    /// The commands that remove them. A file `alternates` behind one, by which this repository
+    /// borrows objects, stays.
     pub fn removed(&self, question: &Question) -> Vec<String> {
         if self.is_empty() {
             return Vec::new();
@@ -105,7 +107,8 @@ impl Links {
     }
 }
 
-/// Whether what a path leads to lies in a folder of this repository. Those of its submodules are other repositories.
+/// Whether what a path leads to lies in a folder of this repository. Those of its submodules are
+/// other repositories.
 pub fn is_own(question: &Question, path: &Path) -> bool {
     let repository = &question.repository;
     let is_below = |path: &Path, folder: &Path| path != folder && path.starts_with(folder);
@@ -156,8 +159,9 @@ impl<'a> Cures<'a> {
         self.foreign.is_some()
     }
 
-    /// The command by which Git writes a commit-graph of all that is reachable, and of what further words of `git rev-list`
-    /// lead to. With --reachable Git takes what references lead to; what else is reachable has to be named.
+    /// The command by which Git writes a commit-graph of all that is reachable, and of what further
+    /// words of `git rev-list` lead to. With --reachable Git takes what references lead to; what
+    /// else is reachable has to be named.
     pub fn writes(&self, options: &str, more: &str) -> String {
         self.writes_by(&self.question.git_there(), options, more)
     }
@@ -173,8 +177,9 @@ impl<'a> Cures<'a> {
         )
     }
 
-    /// The commands that give this repository a commit-graph of its own, with some words after `git`: `git cgraph write` goes by
-    /// the commits alone, and then Git adds filters, and commits to which only a HEAD leads.
+    /// The commands that give this repository a commit-graph of its own, with some words after
+    /// `git`: `git cgraph write` goes by the commits alone, and then Git adds filters, and commits
+    /// to which only a HEAD leads.
     pub fn writes_own(&self, words: &str) -> Vec<String> {
         let mut commands = self.links.removed(self.question);
         let git = git_with(self.question, words);
@@ -194,7 +199,8 @@ impl<'a> Cures<'a> {
         }
     }
 
-    /// The command that removes the chain. Where its folder or its chain file is a link, that stays.
+    /// The command that removes the chain. Where its folder or its chain file is a link, that
+    /// stays.
     pub fn removes_chain(&self) -> Option<String> {
         let (folder, chain) = (self.graph.folder.join("commit-graphs"), self.graph.chain_file());
         if !folder.is_symlink() && !chain.is_symlink() {
@@ -217,7 +223,8 @@ impl<'a> Cures<'a> {
         commands
     }
 
-    /// What has to be done first, where Git would write no commit-graph here. The answer is false where it would.
+    /// What has to be done first, where Git would write no commit-graph here. The answer is false
+    /// where it would.
     pub fn is_hindered(&self, known: &mut Known) -> bool {
         let question = self.question;
         let (advice, cure) = if question.is_unused() {
@@ -253,8 +260,8 @@ impl<'a> Cures<'a> {
         true
     }
 
-    /// What to do about a commit-graph that is not this repository's own. Whoever keeps it has to do something with it, and this
-    /// repository may have one of its own.
+    /// What to do about a commit-graph that is not this repository's own. Whoever keeps it has to
+    /// do something with it, and this repository may have one of its own.
     pub fn advise_own(&self, known: &mut Known, wish: Wish) {
         let foreign = self.foreign.as_ref().map(shown).unwrap_or_default();
         let words = match wish {
@@ -294,8 +301,8 @@ impl<'a> Cures<'a> {
                 || is_there(&own.join("info/commit-graphs/commit-graph-chain")))
     }
 
-    /// How the commit-graph becomes right. The row of the line says what to do, but for what only a path of one's own can be
-    /// asked for: here the whole chain was opened.
+    /// How the commit-graph becomes right. The row of the line says what to do, but for what only a
+    /// path of one's own can be asked for: here the whole chain was opened.
     pub fn advise_anew(mut self, known: &mut Known, line: &str) {
         known.note.clear();
         if !self.is_hindered(known) {
@@ -326,7 +333,8 @@ impl<'a> Cures<'a> {
         }
     }
 
-    /// The same where a chain stands beside a file, and is right, or nobody knows what it is: the file alone goes.
+    /// The same where a chain stands beside a file, and is right, or nobody knows what it is: the
+    /// file alone goes.
     fn advise_beside(mut self, known: &mut Known, is_right: bool) {
         let had = std::mem::replace(&mut self.filtered, filters_of(&self.graph.as_chain()));
         let file = self.graph.file();
@@ -404,8 +412,8 @@ fn filters_of(graph: &Graph) -> Filtered {
     }
 }
 
-/// The command that removes what is in the way: a file, or what a link leads to, so that the link stays; a folder with all that
-/// it has. A link to a folder goes itself.
+/// The command that removes what is in the way: a file, or what a link leads to, so that the link
+/// stays; a folder with all that it has. A link to a folder goes itself.
 fn removes(path: &Path) -> Option<String> {
     if path.is_symlink() && !path.is_dir() {
         path.exists().then(|| format!("rm -f {}", quoted(real_path(path).unwrap_or_default())))

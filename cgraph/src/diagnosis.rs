@@ -1,4 +1,5 @@
-//! What is wrong where a line was refused: which file it is, why it cannot be read, and by which commands all becomes right.
+//! What is wrong where a line was refused: which file it is, why it cannot be read, and by which
+//! commands all becomes right.
 
 use std::path::{Path, PathBuf};
 
@@ -109,7 +110,8 @@ impl<'a> Case<'a> {
         }
     }
 
-    /// Finds the id of the commit at the position that a refusal names, where the layers can be listed.
+    /// Finds the id of the commit at the position that a refusal names, where the layers can be
+    /// listed.
     pub fn name_commit_at(&mut self) {
         if self.known.commit.is_empty() && self.answer.is_refused() {
             if let Some(found) = self.at_position() {
@@ -268,7 +270,8 @@ impl<'a> Case<'a> {
         self.known = known;
     }
 
-    /// The same of a commit that the commit-graph lacks. Git writes one that has it where something leads to the commit.
+    /// The same of a commit that the commit-graph lacks. Git writes one that has it where something
+    /// leads to the commit.
     fn diagnose_unknown(&mut self) {
         let number = self.answer.line.strip_prefix("unknown ").and_then(|text| text.parse().ok());
         let at = number.and_then(|number: usize| number.checked_sub(1));

@@ -6,7 +6,8 @@ use std::path::PathBuf;
 use crate::commands::Takes;
 use crate::text::shown;
 
-/// What went wrong. `Display` has the sentence; where the table of refusals has a row of it, that says more.
+/// What went wrong. `Display` has the sentence; where the table of refusals has a row of it, that
+/// says more.
 #[derive(Clone, Debug, PartialEq, Eq)]
 pub enum Error {
     NoCommand,

@@ -101,7 +101,8 @@ impl Listing {
         Listing { layer, below, ..Listing::default() }
     }
 
-    /// The object that a line completes, if it completes one. That of a layer comes once all of its base ids are there.
+    /// The object that a line completes, if it completes one. That of a layer comes once all of its
+    /// base ids are there.
     pub fn object_of(&mut self, line: &str) -> Option<Object> {
         let words: Vec<&str> = line.split(' ').collect();
         match words[..] {

@@ -32,7 +32,8 @@ pub struct Places {
 }
 
 impl Places {
-    /// The folder that is named, or that of the repository, and then those of which it borrows objects.
+    /// The folder that is named, or that of the repository, and then those of which it borrows
+    /// objects.
     pub fn find(session: &Session, repository: &Repository, named: Option<&Path>) -> Self {
         let objects = &repository.objects;
         let mut folders = vec![named.unwrap_or(objects).to_owned()];
@@ -91,7 +92,8 @@ pub struct Graph {
     places: Places,
 }
 
-/// A folder in which a program runs, and the path of the commit-graph from there: the programs take no other bytes than text.
+/// A folder in which a program runs, and the path of the commit-graph from there: the programs take
+/// no other bytes than text.
 #[derive(Clone, Debug)]
 pub struct Place {
     pub folder: PathBuf,
@@ -157,8 +159,8 @@ impl Graph {
         self.kind == Kind::Chain && self.chain_lines().len() >= 2
     }
 
-    /// Which commit-graph there is at this moment: of a chain its lines and when they were written. A file is read as it was when
-    /// it was opened, whatever takes its place.
+    /// Which commit-graph there is at this moment: of a chain its lines and when they were written.
+    /// A file is read as it was when it was opened, whatever takes its place.
     pub fn identity(&self) -> impl PartialEq {
         let chain = (self.kind == Kind::Chain)
             .then(|| (inode(&self.chain_file()), fs::read(self.chain_file()).unwrap_or_default()));
@@ -181,7 +183,8 @@ impl Graph {
         self.kind == Kind::Chain && !self.chain_lines().iter().all(inside)
     }
 
-    /// Makes a folder of links to the layers of a chain, as the programs look for them beside the chain file.
+    /// Makes a folder of links to the layers of a chain, as the programs look for them beside the
+    /// chain file.
     fn gather_layers(&self, scratch: &Scratch) -> Result<(), Error> {
         let folder = scratch.folder()?.join("chain");
         let _ = fs::remove_dir_all(&folder);
@@ -199,8 +202,8 @@ impl Graph {
         Ok(())
     }
 
-    /// Where a program finds it. A file `commit-graph` is named by itself where `alone` says so, or where no chain is beside it:
-    /// of the folder the programs would say what the chain is.
+    /// Where a program finds it. A file `commit-graph` is named by itself where `alone` says so, or
+    /// where no chain is beside it: of the folder the programs would say what the chain is.
     pub fn place(&self, scratch: &Scratch, alone: bool) -> Result<Place, Error> {
         if self.is_scattered() {
             self.gather_layers(scratch)?;
@@ -229,14 +232,15 @@ impl Graph {
         hash_of(&self.layer_file(0))
     }
 
-    /// The number of the first line of the chain file that ends with CR and LF. Git takes CR for a part of the name of a layer.
+    /// The number of the first line of the chain file that ends with CR and LF. Git takes CR for a
+    /// part of the name of a layer.
     pub fn line_with_cr(&self) -> Option<usize> {
         let content = fs::read(self.chain_file()).unwrap_or_default();
         content.split(|&byte| byte == b'\n').position(|line| line.ends_with(b"\r"))
     }
 
-    /// The line by which Git's own refusals are told, which the programs do not make: of the other kind of hash, and of a chain
-    /// file whose lines end with CR and LF.
+    /// The line by which Git's own refusals are told, which the programs do not make: of the other
+    /// kind of hash, and of a chain file whose lines end with CR and LF.
     pub fn refused_by_git(&self, hash: Hash) -> Option<String> {
         match (self.kind, self.line_with_cr()) {
             (Kind::None, _) => return None,
@@ -246,8 +250,9 @@ impl Graph {
         self.hash().filter(|&found| found != hash).map(|_| "refused git 1".to_owned())
     }
 
-    /// Whether the commit-graph has changed-path filters, by the table of chunks of its files: those of a chain that its lines name,
-    /// up to eight, and those that lie beside it, also where there is no chain file.
+    /// Whether the commit-graph has changed-path filters, by the table of chunks of its files:
+    /// those of a chain that its lines name, up to eight, and those that lie beside it, also where
+    /// there is no chain file.
     pub fn has_filters(&self) -> bool {
         const MOST: usize = 8;
         match self.kind {
@@ -300,7 +305,8 @@ pub struct Stamp {
 }
 
 impl Stamp {
-    /// Whether it is the same at the positions that there were: further layers may have come on top.
+    /// Whether it is the same at the positions that there were: further layers may have come on
+    /// top.
     pub fn is_below(&self, other: &Stamp) -> bool {
         (self.kind, &self.home, self.file) == (other.kind, &other.home, other.file)
             && other.layers.starts_with(&self.layers)
@@ -363,8 +369,8 @@ fn is_filtered(path: &Path) -> bool {
 /// As many bytes as the largest table of chunks has, with the header.
 const TABLE_BYTES: u64 = 3200;
 
-/// Whether the table of chunks at the beginning of a file is whole: so many ids that Git knows as the header says, and zeros at
-/// its end.
+/// Whether the table of chunks at the beginning of a file is whole: so many ids that Git knows as
+/// the header says, and zeros at its end.
 fn tells_chunks(head: &[u8]) -> bool {
     const HEADER: usize = 8;
     const ENTRY: usize = 12;

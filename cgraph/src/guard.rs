@@ -1,8 +1,10 @@
-//! How the program ends where a signal comes: with all that it has started, and without what it has made for a moment.
+//! How the program ends where a signal comes: with all that it has started, and without what it has
+//! made for a moment.
 //!
-//! One thread waits for signals. Where one comes, nothing more is written, started or made; the processes that run are ended,
-//! locks and files of a moment are removed, and then the program ends by the same signal. Only SIGKILL cannot be waited for:
-//! then the kernel ends each process that was started (`PR_SET_PDEATHSIG`).
+//! One thread waits for signals. Where one comes, nothing more is written, started or made; the
+//! processes that run are ended, locks and files of a moment are removed, and then the program ends
+//! by the same signal. Only SIGKILL cannot be waited for: then the kernel ends each process that
+//! was started (`PR_SET_PDEATHSIG`).
 
 use std::collections::HashMap;
 use std::fs;
@@ -74,7 +76,8 @@ impl Guard {
         self.made.lock().unwrap_or_else(PoisonError::into_inner)
     }
 
-    /// Waits for the end, where a signal came. After this call what a process answered was not cut short by that signal.
+    /// Waits for the end, where a signal came. After this call what a process answered was not cut
+    /// short by that signal.
     pub fn stop_where_ending(&self) {
         while self.is_ending.load(Ordering::SeqCst) {
             thread::park();
@@ -98,8 +101,8 @@ impl Guard {
     }
 }
 
-/// Ends the processes that a process has started, as long as some of them run. A shell says nothing of a child that SIGPIPE ends,
-/// so that comes first.
+/// Ends the processes that a process has started, as long as some of them run. A shell says nothing
+/// of a child that SIGPIPE ends, so that comes first.
 fn end_all_below(process: u32) {
     const PATIENCE: usize = 20;
     for round in 0.. {
@@ -117,7 +120,8 @@ fn end_all_below(process: u32) {
     }
 }
 
-/// The processes that run below one, each before those that it has started: whoever is ended does nothing more when these end.
+/// The processes that run below one, each before those that it has started: whoever is ended does
+/// nothing more when these end.
 fn started_by(process: u32) -> Vec<i32> {
     let parents: HashMap<i32, i32> = fs::read_dir("/proc")
         .into_iter()

@@ -13,7 +13,8 @@ pub fn usage(word: Option<&str>) -> String {
     parts_of(MANUAL).iter().find_map(|part| synopsis(part, word)).unwrap_or_default()
 }
 
-/// The lines of the synopsis that are of a command, which begins with the first lines that are kept.
+/// The lines of the synopsis that are of a command, which begins with the first lines that are
+/// kept.
 fn synopsis(part: &Part, word: Option<&str>) -> Option<String> {
     let Part::Kept(lines) = part else { return None };
     let own = lines.iter().filter(|line| word.map_or(true, |word| has_word(line, word)));
@@ -140,7 +141,8 @@ fn plain(text: &str) -> String {
     text.replace('`', "")
 }
 
-/// A text in lines of some width, each of which begins with the same blanks. What stands in backquotes has quotes there.
+/// A text in lines of some width, each of which begins with the same blanks. What stands in
+/// backquotes has quotes there.
 fn wrapped(text: &str, indent: &str) -> String {
     let (mut whole, mut line) = (String::new(), String::new());
     for word in text.replace('`', "'").split_whitespace() {

@@ -85,11 +85,13 @@ fn id_of(text: &[u8]) -> Option<Id> {
     Some(id)
 }
 
-/// Of the newest commits, the ids of those that are not stored, in their order; or nothing where there are more that are new.
+/// Of the newest commits, the ids of those that are not stored, in their order; or nothing where
+/// there are more that are new.
 ///
-/// `tips` has the ids to which references lead, `newest` some commits that they reach, each with its parents behind it, and
-/// `stored` those of all these that are stored, with all of their ancestors. The new ones are all there where each tip, and each
-/// parent of a new one, is new or stored.
+/// `tips` has the ids to which references lead, `newest` some commits that they reach, each with
+/// its parents behind it, and `stored` those of all these that are stored, with all of their
+/// ancestors. The new ones are all there where each tip, and each parent of a new one, is new or
+/// stored.
 pub fn new_commits(tips: &Ids, newest: &str, stored: &Ids) -> Option<Vec<String>> {
     let listed = newest.lines().filter_map(|line| line.split(' ').next());
     let listed = Ids::read(listed.collect::<Vec<_>>().join("\n").as_bytes()).ok()?;

@@ -146,7 +146,8 @@ fn write_all<T>(
     Ok(())
 }
 
-/// Writes a text in double quotes. A byte that is no UTF-8 becomes U+FFFD, the sign for what cannot be read.
+/// Writes a text in double quotes. A byte that is no UTF-8 becomes U+FFFD, the sign for what cannot
+/// be read.
 fn write_text(out: &mut fmt::Formatter<'_>, text: &str) -> fmt::Result {
     out.write_str("\"")?;
     for letter in text.chars() {

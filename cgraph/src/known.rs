@@ -1,4 +1,5 @@
-//! What is known of a line beside its row in the tables, and the sentences and the fields of JSON that say all of it.
+//! What is known of a line beside its row in the tables, and the sentences and the fields of JSON
+//! that say all of it.
 
 use std::path::PathBuf;
 
@@ -51,7 +52,8 @@ impl<'a> Explained<'a> {
         Explained { line, known, row: refusals::meaning_of(line, command), beside }
     }
 
-    /// All sentences, and the commands after them, as standard error has them; nothing where no row is found.
+    /// All sentences, and the commands after them, as standard error has them; nothing where no row
+    /// is found.
     pub fn sentences(&self) -> String {
         let mut said = Vec::new();
         if self.row.is_none() && self.beside.is_none() {
@@ -123,8 +125,8 @@ impl<'a> Explained<'a> {
         text
     }
 
-    /// The fields of an object: those alone of which something is known. Commands with a byte that is no UTF-8 would name
-    /// another path.
+    /// The fields of an object: those alone of which something is known. Commands with a byte that
+    /// is no UTF-8 would name another path.
     pub fn fields(&self, warnings: &[String]) -> Object {
         let mut fields = Object::default();
         let mut warnings = warnings.to_vec();

@@ -1,4 +1,5 @@
-//! What `graphtool list` tells of the layers of a commit-graph: which one has a position, and the id that stands there.
+//! What `graphtool list` tells of the layers of a commit-graph: which one has a position, and the
+//! id that stands there.
 
 use std::fs::{self, File};
 use std::io::{BufRead, BufReader};
@@ -16,7 +17,8 @@ pub struct AtPosition {
     pub commit: String,
 }
 
-/// What stands at a position of the whole graph at a path, if the program is there and can list the layers up to it.
+/// What stands at a position of the whole graph at a path, if the program is there and can list the
+/// layers up to it.
 pub fn at_position(session: &Session, path: &Path, position: u64) -> Option<AtPosition> {
     let lister = session.lister()?;
     let mut left = position;
@@ -47,7 +49,8 @@ fn files_at(path: &Path) -> Vec<PathBuf> {
     }
 }
 
-/// The id at a position of one layer, or how many commits it has. There is nothing where it cannot be listed.
+/// The id at a position of one layer, or how many commits it has. There is nothing where it cannot
+/// be listed.
 fn commit_in(
     session: &Session,
     lister: &Path,

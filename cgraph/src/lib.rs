@@ -1,9 +1,10 @@
 //! `git cgraph`: checks the commit-graph of a repository, asks it about commits, and writes it.
 //!
-//! The answers are those of the proved programs `graphtool` and `historytool`. This package finds the commit-graph and the ids of
-//! revisions, by Git, and says in sentences what a refusal means.
+//! The answers are those of the proved programs `graphtool` and `historytool`. This package finds
+//! the commit-graph and the ids of revisions, by Git, and says in sentences what a refusal means.
 
 #![deny(unsafe_op_in_unsafe_fn)]
+#![warn(clippy::too_many_lines)]
 
 mod alternates;
 mod answers;
@@ -53,9 +54,9 @@ const VERSION: &str = include_str!("../../VERSION");
 /// The status for words that are no command.
 const WRONG_WORDS: i32 = 129;
 
-/// Answers the words of the command line, and ends. The status is 0 where all is right or something was found, 1 where the
-/// commit-graph is wrong or the answer is no or none, 128 where there is no answer, 129 for words that are no command, and 141
-/// where nobody reads the answer.
+/// Answers the words of the command line, and ends. The status is 0 where all is right or something
+/// was found, 1 where the commit-graph is wrong or the answer is no or none, 128 where there is no
+/// answer, 129 for words that are no command, and 141 where nobody reads the answer.
 pub fn run(words: &[OsString]) -> ! {
     let session = Session::begin();
     let status = match words::read(words) {

@@ -14,7 +14,8 @@ use crate::session::{Passed, Session};
 use crate::system::{may, Right};
 use crate::text::text_of;
 
-/// Lists the layers, and once more where the commit-graph is another one after a refusal and nothing is written yet.
+/// Lists the layers, and once more where the commit-graph is another one after a refusal and
+/// nothing is written yet.
 pub fn list<'a>(question: &'a Question<'a>, graphtool: &Path) -> Case<'a> {
     const TRIES: usize = 3;
     let mut case = Case::new(question, question.places.graph(), Answer::of(0, ""));

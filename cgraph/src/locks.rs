@@ -1,6 +1,7 @@
 //! The locks under which a commit-graph is written, and the rights of its files.
 //!
-//! The locks are Git's: files with `.lock` behind the name of what is written, which only one process can make.
+//! The locks are Git's: files with `.lock` behind the name of what is written, which only one
+//! process can make.
 
 use std::ffi::OsString;
 use std::fs::{self, File, OpenOptions, Permissions};
@@ -78,7 +79,8 @@ pub fn take_all(guard: &Guard, paths: &[PathBuf]) -> Result<Vec<Lock>, Refusal> 
     Ok(locks)
 }
 
-/// Takes a lock, once more where whoever held it has given it back meanwhile. There is nothing where it is there.
+/// Takes a lock, once more where whoever held it has given it back meanwhile. There is nothing
+/// where it is there.
 fn take_one<T>(
     mut take: impl FnMut() -> io::Result<T>,
     mut is_held: impl FnMut() -> bool,
@@ -159,7 +161,8 @@ mod tests {
         assert_eq!(Shared::of("0600"), Shared::Exactly(0o400, 0o700));
     }
 
-    /// A lock that is given back as it is seen is named, and one that is given back as it is taken is taken.
+    /// A lock that is given back as it is seen is named, and one that is given back as it is taken
+    /// is taken.
     #[test]
     fn a_lock_that_is_given_back() {
         let folder = std::env::temp_dir().join(format!("locks.{}", std::process::id()));

@@ -1,4 +1,5 @@
-//! What is wrong where commits are missing or damaged, or cannot be listed; and what kept `write` from writing.
+//! What is wrong where commits are missing or damaged, or cannot be listed; and what kept `write`
+//! from writing.
 
 use std::fs;
 use std::path::{Path, PathBuf};
@@ -47,8 +48,6 @@ impl Case<'_> {
         let unreadable = self.unreadable_file();
         self.known.file.clone_from(&unreadable);
         let question = self.question;
-        let git_here = || question.git_here();
-        let commit = self.known.commit.clone();
         if self.git_has_means() {
             self.known.is_absent = true;
             self.known.advice = "see what Git says, and ask again".to_owned();
@@ -62,31 +61,42 @@ impl Case<'_> {
             self.known.cure = vec![format!("ls -l {}", quoted(&file))];
         } else if self.loose_file().is_some() || self.is_stored() {
             self.diagnose_damaged();
-        } else if question.repository.is_shallow {
+        } else if self.is_past_the_end() {
             self.known.is_absent = true;
-            self.known.advice = "this repository is shallow, and the commit lies past its end: \
-                                 fetch the whole history, and ask again"
-                .to_owned();
-            self.known.cure = vec![format!("{} fetch --unshallow", git_here())];
-        } else if self.is_partial() {
-            self.known.is_absent = true;
-            self.known.advice = "this is a partial clone, in which the commit is not here, and \
-                                 nothing was fetched: let Git fetch it, and ask again"
-                .to_owned();
-            self.known.cure = vec![format!("{} cat-file -e {commit}", git_here())];
         } else if matches!(question.words.word(), "write" | "show") || self.is_lost() {
             self.known.advice =
                 "the commit is missing, and has to come back: take it from another \
                                  copy of the repository, and ask again. Keep the commit-graph, \
                                  which may have the last record of its parents"
                     .to_owned();
-            self.known.cure = vec![format!("{} fsck", git_here())];
+            self.known.cure = vec![format!("{} fsck", question.git_here())];
         } else {
             self.advise_without();
         }
     }
 
-    /// Whether Git can read the commit after all, or fails for want of something, which tells nothing of the object.
+    /// Says where the commit can be fetched: in a shallow repository, past whose end it lies, and
+    /// in a partial clone.
+    fn is_past_the_end(&mut self) -> bool {
+        let git = self.question.git_here();
+        if self.question.repository.is_shallow {
+            self.known.advice = "this repository is shallow, and the commit lies past its end: \
+                                 fetch the whole history, and ask again"
+                .to_owned();
+            self.known.cure = vec![format!("{git} fetch --unshallow")];
+        } else if self.is_partial() {
+            self.known.advice = "this is a partial clone, in which the commit is not here, and \
+                                 nothing was fetched: let Git fetch it, and ask again"
+                .to_owned();
+            self.known.cure = vec![format!("{git} cat-file -e {}", self.known.commit)];
+        } else {
+            return false;
+        }
+        true
+    }
+
+    /// Whether Git can read the commit after all, or fails for want of something, which tells
+    /// nothing of the object.
     fn git_has_means(&self) -> bool {
         let session = self.question.session;
         let mut git = session.git_alone();
@@ -110,8 +120,8 @@ impl Case<'_> {
         session.succeeds(&mut git)
     }
 
-    /// Whether a reference, or the HEAD of a worktree, leads to a commit that is missing, as far as Git can tell: it lists all
-    /// commits only where none of them is.
+    /// Whether a reference, or the HEAD of a worktree, leads to a commit that is missing, as far as
+    /// Git can tell: it lists all commits only where none of them is.
     fn is_lost(&self) -> bool {
         let session = self.question.session;
         let line = self.question.progress.waiting(&session.guard, "Looking for lost commits");
@@ -168,7 +178,8 @@ impl Case<'_> {
         self.loose_file().into_iter().chain(packs).find(is_closed)
     }
 
-    /// The same of a list that Git could not write to its end: what it says names the object, or a reference.
+    /// The same of a list that Git could not write to its end: what it says names the object, or a
+    /// reference.
     pub fn diagnose_listing(&mut self, listed: &str) {
         let session = self.question.session;
         let mut git = session.plain_git();
@@ -201,7 +212,8 @@ impl Case<'_> {
         self.diagnose_missing();
     }
 
-    /// Finds out what kept `write` from writing: nothing is wrong with the commits, as far as one knows.
+    /// Finds out what kept `write` from writing: nothing is wrong with the commits, as far as one
+    /// knows.
     pub fn diagnose_write(&mut self) {
         self.known.is_absent = true;
         let line = self.answer.line.clone();
@@ -250,9 +262,9 @@ impl Case<'_> {
         let number = number_after(line, " entry ").or_else(|| number_after(line, " commit "));
         let number = number.and_then(|number| number.parse::<usize>().ok());
         let ids = self.question.scratch.path("ids").ok().and_then(|path| fs::read(path).ok());
-        let id = number.zip(ids).and_then(|(number, ids)| {
-            ids.split(|&byte| byte == b'\n').nth(number).map(|id| text_of(id))
-        });
+        let id = number
+            .zip(ids)
+            .and_then(|(number, ids)| ids.split(|&byte| byte == b'\n').nth(number).map(text_of));
         self.known.commit = id.unwrap_or_default();
         !self.known.commit.is_empty()
     }

@@ -1,7 +1,7 @@
 //! The parts of a manual, such as docs/MANUAL.md.
 //!
-//! The document has headings, indented lines that are kept, items that begin with “- ” and a term in backquotes, and
-//! paragraphs.
+//! The document has headings, indented lines that are kept, items that begin with “- ” and a term
+//! in backquotes, and paragraphs.
 
 /// A part of a manual.
 #[derive(Debug, PartialEq, Eq)]

@@ -1,7 +1,8 @@
 //! `git cgraph verify --objects`: compares the commit-graph with the commits.
 //!
-//! For each part of the positions three processes run in a row: `historytool ids`, which names the commits; `git cat-file`,
-//! which writes them; and `historytool objects`, which holds each against the commit-graph.
+//! For each part of the positions three processes run in a row: `historytool ids`, which names the
+//! commits; `git cat-file`, which writes them; and `historytool objects`, which holds each against
+//! the commit-graph.
 
 use std::io::{self, BufRead, BufReader, Read, Write};
 use std::path::Path;
@@ -27,7 +28,8 @@ pub struct Compared {
     pub count: u64,
 }
 
-/// Compares the commits of a commit-graph that was found right, so many parts at a time as was asked for.
+/// Compares the commits of a commit-graph that was found right, so many parts at a time as was
+/// asked for.
 pub fn compare(case: &Case, historytool: &Path, count: u64) -> Compared {
     let question = case.question;
     let parts = u64::from(question.options().jobs.unwrap_or(1)).min(count.max(1));
@@ -117,7 +119,8 @@ impl Part {
     }
 }
 
-/// Passes on the ids of a part, and counts them if somebody looks on. A refusal in their place goes no further, and comes back.
+/// Passes on the ids of a part, and counts them if somebody looks on. A refusal in their place goes
+/// no further, and comes back.
 fn pass_ids(
     from: ChildStdout,
     mut to: ChildStdin,
@@ -214,8 +217,8 @@ fn judge_part(part: &Ended) -> Verdict {
     }
 }
 
-/// The same where the stream of commits ended early, or a program failed beside an answer: which one failed. Where none did, the
-/// ids were those of another commit-graph.
+/// The same where the stream of commits ended early, or a program failed beside an answer: which
+/// one failed. Where none did, the ids were those of another commit-graph.
 fn judge_failed(part: &Ended, status: i32, line: String) -> Verdict {
     if is_signal(part.ids) {
         Verdict::Ended(part.ids, line)

@@ -173,7 +173,8 @@ fn operands(command: &Command) -> String {
 #[derive(Default)]
 struct Told {
     about: String,
-    /// The part on what the programs read, but for paragraphs that begin with a command of the other program.
+    /// The part on what the programs read, but for paragraphs that begin with a command of the
+    /// other program.
     read: String,
     /// What each command prints, and lines that show it.
     prints: BTreeMap<String, (String, String)>,

@@ -49,7 +49,8 @@ impl Answer {
     }
 }
 
-/// Takes the lines of an answer. A refusal that comes first is not passed on: the caller decides whether it is written.
+/// Takes the lines of an answer. A refusal that comes first is not passed on: the caller decides
+/// whether it is written.
 pub trait Sink {
     /// Begins with an answer; an earlier one is forgotten.
     fn begin(&mut self) {}

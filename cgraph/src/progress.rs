@@ -1,5 +1,5 @@
-//! The line by which standard error says how far something is, where that takes seconds. It is written over, as Git's own:
-//! `Checking commits:  43% (430000/1000000)`.
+//! The line by which standard error says how far something is, where that takes seconds. It is
+//! written over, as Git's own: `Checking commits:  43% (430000/1000000)`.
 
 use std::env;
 use std::fs;
@@ -25,7 +25,8 @@ pub struct Progress {
 }
 
 impl Progress {
-    /// The line is there where it was asked for, and on a terminal: after as many seconds as Git waits.
+    /// The line is there where it was asked for, and on a terminal: after as many seconds as Git
+    /// waits.
     pub fn find(session: &Session, options: &Options) -> Self {
         let is_shown = match options.progress {
             _ if options.quiet => false,
@@ -49,7 +50,8 @@ impl Progress {
         self.delay.map(|seconds| seconds.to_string())
     }
 
-    /// Says how much of a commit-graph of so many bytes a process has read, and then for how long it checks it.
+    /// Says how much of a commit-graph of so many bytes a process has read, and then for how long
+    /// it checks it.
     pub fn reading(self, guard: &Arc<Guard>, size: u64) -> Line {
         let what = What::Reading { size, process: None };
         self.begin(guard, what, |delay| (delay as i64 - 1, Duration::from_secs(delay)))
@@ -218,7 +220,7 @@ fn bytes_read(process: u32) -> Option<u64> {
 
 /// A part of a number, as Git writes it.
 fn percent(part: u64, whole: u64) -> String {
-    format!("{:3}%", if whole == 0 { 100 } else { 100 * part / whole })
+    format!("{:3}%", (100 * part).checked_div(whole).unwrap_or(100))
 }
 
 #[cfg(test)]

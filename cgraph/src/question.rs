@@ -1,4 +1,5 @@
-//! What one question is about: the repository, the commits that are named, and where a commit-graph may be.
+//! What one question is about: the repository, the commits that are named, and where a commit-graph
+//! may be.
 
 use std::env;
 use std::path::Path;
@@ -41,15 +42,16 @@ impl Question<'_> {
         self.places.is_named.then(|| self.places.folders[0].as_path())
     }
 
-    /// Whether the shell that asks stands in another folder than this one, by -C. After `git -C` the variable PWD still names its
-    /// folder, as Git has passed it on.
+    /// Whether the shell that asks stands in another folder than this one, by -C. After `git -C`
+    /// the variable PWD still names its folder, as Git has passed it on.
     fn is_moved(&self) -> bool {
         let from = env::var_os("PWD").filter(|path| !path.is_empty());
         !self.options().folders.is_empty()
             || from.is_some_and(|from| !same_file(Path::new(&from), Path::new(".")))
     }
 
-    /// `git`, as it is called for the repository of the question: by -C where that folder is not the shell's.
+    /// `git`, as it is called for the repository of the question: by -C where that folder is not
+    /// the shell's.
     pub fn git_here(&self) -> String {
         if has_git_dir() {
             format!("git --git-dir={}", quoted(&self.repository.common))
@@ -98,14 +100,16 @@ impl Question<'_> {
         self.session.line(&mut git).as_deref() == Some("false")
     }
 
-    /// Whether some words of `git rev-list`, as --all, lead to a commit, or whether Git cannot tell.
+    /// Whether some words of `git rev-list`, as --all, lead to a commit, or whether Git cannot
+    /// tell.
     pub fn is_led_to(&self, commit: &str, by: &[&str]) -> bool {
         let mut git = self.session.plain_git();
         git.args(["rev-list", "-n", "1", commit, "--not"]).args(by);
         self.session.line(&mut git).unwrap_or_default().is_empty()
     }
 
-    /// The sentences on Git's own answers, where they go by other parents than those that stand in the commits.
+    /// The sentences on Git's own answers, where they go by other parents than those that stand in
+    /// the commits.
     pub fn other_parents(&self) -> Vec<String> {
         let mut said = Vec::new();
         if self.has_replacements() {

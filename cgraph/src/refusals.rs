@@ -1,9 +1,10 @@
 //! What a line means and what to do, by the tables of docs/REFUSALS.md.
 //!
-//! A row is that of a line if a text in backquotes in its first cell has the line's words, where a capital letter stands for any
-//! number, and the line may have more words at its end. Of several such rows the one with the most words is taken, of those
-//! one for the command, which begins with “from `WORD`” or so, and of those the one with the fewest letters. In the other cells
-//! `L+1` is one more than L, and a `"` is what the row above says to do.
+//! A row is that of a line if a text in backquotes in its first cell has the line's words, where a
+//! capital letter stands for any number, and the line may have more words at its end. Of several
+//! such rows the one with the most words is taken, of those one for the command, which begins with
+//! “from `WORD`” or so, and of those the one with the fewest letters. In the other cells `L+1` is
+//! one more than L, and a `"` is what the row above says to do.
 
 use crate::system::signal_name;
 
@@ -136,7 +137,8 @@ fn detail_of(line: &str) -> Option<String> {
     }
 }
 
-/// The numbers that the letters of a text stand for in a line. That of a signal has its name behind it.
+/// The numbers that the letters of a text stand for in a line. That of a signal has its name behind
+/// it.
 fn values_of(text: &str, line: &str) -> Vec<(char, String)> {
     let pairs = text.split(' ').zip(line.split(' '));
     let letters = pairs.filter(|(word, _)| is_letter(word));
@@ -150,7 +152,8 @@ fn values_of(text: &str, line: &str) -> Vec<(char, String)> {
     values
 }
 
-/// A sentence with numbers in the place of letters, and one more in the place of a letter with `+1` behind it.
+/// A sentence with numbers in the place of letters, and one more in the place of a letter with `+1`
+/// behind it.
 fn with_values(text: &str, values: &[(char, String)]) -> String {
     let (mut whole, mut before, mut rest) = (String::new(), ' ', text);
     while let Some(letter) = rest.chars().next() {

@@ -40,7 +40,8 @@ impl Hash {
 /// A repository.
 #[derive(Clone, Debug)]
 pub struct Repository {
-    /// Its object folder. In a hook before new objects are taken, that is a folder which may be thrown away.
+    /// Its object folder. In a hook before new objects are taken, that is a folder which may be
+    /// thrown away.
     pub objects: PathBuf,
     /// The object folder that it keeps.
     pub own: PathBuf,
@@ -102,7 +103,8 @@ impl Repository {
         self.common.join("info/grafts")
     }
 
-    /// Whether commits have replacements, which Git uses and the commit-graph does not have. Git is asked only where some may be.
+    /// Whether commits have replacements, which Git uses and the commit-graph does not have. Git is
+    /// asked only where some may be.
     pub fn has_replacements(&self, session: &Session) -> bool {
         let packed = || fs::read(self.common.join("packed-refs")).unwrap_or_default();
         let may_be = self.common.join("refs/replace").is_dir()
@@ -143,7 +145,8 @@ pub fn commit_word(revision: &OsStr) -> OsString {
     word
 }
 
-/// The same call with revisions, whose ids come behind. There is nothing where Git does not answer with just one for each.
+/// The same call with revisions, whose ids come behind. There is nothing where Git does not answer
+/// with just one for each.
 fn named(session: &Session, revisions: &[OsString]) -> Option<(Told, Vec<String>)> {
     if revisions.is_empty() {
         return None;
@@ -162,7 +165,8 @@ fn trimmed(out: &[u8]) -> &[u8] {
     out.strip_suffix(b"\n").unwrap_or(out)
 }
 
-/// So many ids from the end of lines, and the lines before them: there is nothing where these lines end with a further id.
+/// So many ids from the end of lines, and the lines before them: there is nothing where these lines
+/// end with a further id.
 fn take_ids(lines: &[u8], count: usize) -> Option<(&[u8], Vec<String>)> {
     let (mut rest, mut ids) = (lines, Vec::new());
     for _ in 0..count {

@@ -1,4 +1,5 @@
-//! What one run of the program has: its streams, the guard that a signal finds, and the processes that it starts.
+//! What one run of the program has: its streams, the guard that a signal finds, and the processes
+//! that it starts.
 
 use std::env;
 use std::ffi::OsStr;
@@ -102,7 +103,8 @@ impl Session {
         git
     }
 
-    /// Git, which goes by the commits themselves: the commit-graph may be wrong, and it knows neither replacements nor grafts.
+    /// Git, which goes by the commits themselves: the commit-graph may be wrong, and it knows
+    /// neither replacements nor grafts.
     pub fn plain_git(&self) -> Command {
         let mut git = self.git();
         git.env("GIT_GRAFT_FILE", "/dev/null/none");

@@ -1,4 +1,5 @@
-//! `git cgraph show`: the layers with their files, and how much of the repository the commit-graph covers.
+//! `git cgraph show`: the layers with their files, and how much of the repository the commit-graph
+//! covers.
 
 use std::fs::File;
 use std::path::{Path, PathBuf};
@@ -17,9 +18,9 @@ use crate::program::{Answer, Held, Sink};
 use crate::question::Question;
 use crate::text::{shown, text_of};
 
-/// Shows the commit-graph that is there, also where it is refused, be it by Git alone: the line of the answer is the refusal then.
-/// Where it is another one meanwhile, or was for a moment, so that its ids could not be read, all is asked once more, and nothing is
-/// written until then.
+/// Shows the commit-graph that is there, also where it is refused, be it by Git alone: the line of
+/// the answer is the refusal then. Where it is another one meanwhile, or was for a moment, so that
+/// its ids could not be read, all is asked once more, and nothing is written until then.
 pub fn show<'a>(
     question: &'a Question<'a>,
     historytool: &Path,
@@ -95,7 +96,8 @@ fn with_files(lines: &[String], graph: &Graph) -> Vec<Row> {
     rows
 }
 
-/// How many reachable commits the commit-graph lacks, how many of its commits are gone, and how many are unreachable.
+/// How many reachable commits the commit-graph lacks, how many of its commits are gone, and how
+/// many are unreachable.
 #[derive(Clone, Copy, Debug, PartialEq, Eq)]
 struct Coverage {
     missing: usize,
@@ -128,7 +130,8 @@ fn find_coverage(case: &mut Case, historytool: &Path) -> Result<Coverage, Uncoun
     counted
 }
 
-/// Compares what a reference or the HEAD of a worktree leads to, by the commits themselves, with what stands in the commit-graph.
+/// Compares what a reference or the HEAD of a worktree leads to, by the commits themselves, with
+/// what stands in the commit-graph.
 fn count_commits(case: &Case, historytool: &Path) -> Result<Coverage, Uncounted> {
     let question = case.question;
     let session = question.session;
@@ -295,7 +298,8 @@ fn say_unused(case: &mut Case) {
     }
 }
 
-/// Says what the commit-graph lacks, or has that is gone, and how it is written so that this is not so.
+/// Says what the commit-graph lacks, or has that is gone, and how it is written so that this is not
+/// so.
 fn say_uncovered(case: &mut Case, coverage: Coverage) {
     match coverage.missing {
         0 => {}
@@ -317,8 +321,8 @@ fn say_uncovered(case: &mut Case, coverage: Coverage) {
     }
 }
 
-/// Says how a commit-graph of all reachable commits is written, and of no others. In a chain the layers stay as they are, and commits
-/// that are gone with them.
+/// Says how a commit-graph of all reachable commits is written, and of no others. In a chain the
+/// layers stay as they are, and commits that are gone with them.
 fn advise_covering(case: &mut Case, some_are_gone: bool) {
     let mut known = std::mem::take(&mut case.known);
     let cures = case.cures();

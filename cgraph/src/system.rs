@@ -1,5 +1,6 @@
-//! What the standard library has no words for: signals, the death of a parent, rights of the user who runs this, and which
-//! streams were closed at the start. All `unsafe` code of the package stands in this file, and calls the C library.
+//! What the standard library has no words for: signals, the death of a parent, rights of the user
+//! who runs this, and which streams were closed at the start. All `unsafe` code of the package
+//! stands in this file, and calls the C library.
 
 use std::ffi::{c_char, c_int, CString};
 use std::io;
@@ -45,11 +46,13 @@ extern "C" {
     fn pthread_sigmask(how: c_int, set: *const SignalSet, old: *mut SignalSet) -> c_int;
 }
 
-/// How the process was started: which of the streams 0 to 2 were closed, and which signals it ignores.
+/// How the process was started: which of the streams 0 to 2 were closed, and which signals it
+/// ignores.
 #[derive(Clone, Copy)]
 pub struct Start(u64);
 
-/// Where that is noted. The runtime of Rust opens /dev/null for closed streams, and ignores SIGPIPE, before `main`.
+/// Where that is noted. The runtime of Rust opens /dev/null for closed streams, and ignores
+/// SIGPIPE, before `main`.
 static NOTED: AtomicU64 = AtomicU64::new(0);
 
 /// The loader calls what stands in this section before the runtime begins.
@@ -69,7 +72,8 @@ extern "C" fn note_start() {
         }
     }
     for number in NOTED_SIGNALS {
-        // SAFETY: no handler is set: a signal that was ignored is ignored again, and others are as they were at a start.
+        // SAFETY: no handler is set: a signal that was ignored is ignored again, and others are as
+        // they were at a start.
         let before = unsafe { signal(number, IGNORED) };
         if before == IGNORED {
             noted |= 1 << (SIGNAL_BITS + number);
@@ -98,11 +102,13 @@ impl Start {
     }
 }
 
-/// Holds these signals back from all threads that begin from now on, and from this one, so that [`wait_for`] gets them. A file
-/// that grows too large is from now on an error of a write, and no signal.
+/// Holds these signals back from all threads that begin from now on, and from this one, so that
+/// [`wait_for`] gets them. A file that grows too large is from now on an error of a write, and no
+/// signal.
 pub fn hold_back(numbers: &[c_int]) -> SignalSet {
     let set = set_of(numbers);
-    // SAFETY: `set` is a set that was made, and the old mask is not asked for. SIGPIPE and SIGXFSZ get no handler.
+    // SAFETY: `set` is a set that was made, and the old mask is not asked for. SIGPIPE and SIGXFSZ
+    // get no handler.
     unsafe {
         pthread_sigmask(SIG_BLOCK, &set, std::ptr::null_mut());
         if numbers.contains(&SIGPIPE) {
@@ -136,7 +142,8 @@ pub fn wait_for(set: &SignalSet) -> c_int {
 /// Ends this process by a signal that was held back.
 pub fn end_by(number: c_int) -> ! {
     let set = set_of(&[number]);
-    // SAFETY: the signal has its first meaning again, comes to this process, and is let through in this thread.
+    // SAFETY: the signal has its first meaning again, comes to this process, and is let through in
+    // this thread.
     unsafe {
         signal(number, DEFAULT);
         kill(std::process::id() as c_int, number);
@@ -151,8 +158,8 @@ pub fn send(process: i32, number: c_int) {
     unsafe { kill(process, number) };
 }
 
-/// Sees to it that the process of a command ends when the thread that starts it ends, by whatever signal, and that it has the
-/// signals and the standard input with which this process was started.
+/// Sees to it that the process of a command ends when the thread that starts it ends, by whatever
+/// signal, and that it has the signals and the standard input with which this process was started.
 pub fn bind(command: &mut Command, start: Start, keeps_input: bool) {
     let parent = std::process::id() as c_int;
     let prepare = move || {

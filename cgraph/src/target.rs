@@ -1,4 +1,5 @@
-//! Whether a commit-graph may be written, and where: what keeps `git cgraph write` from that before it begins.
+//! Whether a commit-graph may be written, and where: what keeps `git cgraph write` from that before
+//! it begins.
 
 use std::fs::{self, DirBuilder};
 use std::path::{Path, PathBuf};
@@ -61,7 +62,8 @@ pub struct Target {
 }
 
 impl Target {
-    /// The files of an object folder in which a commit-graph may be written. Their folders are made.
+    /// The files of an object folder in which a commit-graph may be written. Their folders are
+    /// made.
     pub fn find(question: &Question) -> Result<Target, Halt> {
         let folder = question.named().unwrap_or(&question.repository.objects).to_owned();
         look_for_quarantine(&folder)?;
@@ -131,8 +133,8 @@ impl Target {
         Ok(())
     }
 
-    /// Takes the lock of the file, and that of the chain where its folder is there: whoever keeps to them writes nothing
-    /// meanwhile.
+    /// Takes the lock of the file, and that of the chain where its folder is there: whoever keeps
+    /// to them writes nothing meanwhile.
     pub fn lock(&self, question: &Question) -> Result<(Lock, Option<Lock>), Halt> {
         let mut paths = vec![lock_of(&self.single)];
         if self.chains().is_dir() {
@@ -242,8 +244,8 @@ fn look_for_folder(question: &Question) -> Result<(), Halt> {
     Err(Halt::unwritten(place, "write to this repository's own", cure))
 }
 
-/// Whether what is written stays in the repository for which it is written. Git follows a link that leads elsewhere, where the
-/// commit-graph of another repository may be.
+/// Whether what is written stays in the repository for which it is written. Git follows a link that
+/// leads elsewhere, where the commit-graph of another repository may be.
 fn look_for_strays(question: &Question, folder: &Path) -> Result<(), Halt> {
     if same_file(folder, &question.repository.own) {
         let links = Links::find(question);

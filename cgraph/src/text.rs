@@ -1,5 +1,6 @@
-//! Bytes as text. A path, or what a program says, may have bytes that are no UTF-8. Each of them becomes one letter of a
-//! block for private use, so that sentences are ordinary strings, and comes back where a text is written.
+//! Bytes as text. A path, or what a program says, may have bytes that are no UTF-8. Each of them
+//! becomes one letter of a block for private use, so that sentences are ordinary strings, and comes
+//! back where a text is written.
 
 use std::ffi::OsStr;
 use std::os::unix::ffi::OsStrExt;

@@ -1,8 +1,10 @@
 //! `git cgraph write`: writes the commit-graph.
 //!
-//! `git rev-list` lists the commits that references lead to, `git cat-file` writes them, and `historytool write` makes a file of
-//! them. Both programs check it, with the layers on which it stands, and only then it gets its name, in one step: before that the
-//! old commit-graph is as it was. The bytes go into the lock of the file, and the lines of a chain into that of the chain file.
+//! `git rev-list` lists the commits that references lead to, `git cat-file` writes them, and
+//! `historytool write` makes a file of them. Both programs check it, with the layers on which it
+//! stands, and only then it gets its name, in one step: before that the old commit-graph is as it
+//! was. The bytes go into the lock of the file, and the lines of a chain into that of the chain
+//! file.
 
 use std::fs::{self, File, OpenOptions};
 use std::io::{self, BufRead, BufReader, Read, Seek, SeekFrom, Write};
@@ -40,46 +42,14 @@ pub fn write<'a>(question: &'a Question<'a>, sink: &mut dyn Sink) -> Result<Case
     let historytool = question.session.program(Tool::Historytool)?;
     let mut case = Case::new(question, question.places.graph(), Answer::of(0, ""));
     case.has_graph = false;
-    let target = Target::find(question).and_then(|target| Ok((target.lock(question)?, target)));
-    let ((single, chain), target) = match target {
-        Ok(found) => found,
-        Err(halt) => {
-            take_halt(&mut case, halt);
-            return Ok(case);
+    let locked = Target::find(question).and_then(|target| Ok((target.lock(question)?, target)));
+    match locked {
+        Err(halt) => take_halt(&mut case, halt),
+        Ok((locks, target)) => {
+            let scratch = question.scratch.folder()?.to_owned();
+            let programs = (graphtool, historytool);
+            Writer::new(question, target, locks, programs, scratch).run(&mut case, sink);
         }
-    };
-    question.scratch.folder()?;
-    case.graph = question.places.graph();
-    case.has_graph = true;
-    let scratch = question.scratch.folder()?.to_owned();
-    let mut writer = Writer {
-        question,
-        target,
-        graphtool,
-        historytool,
-        scratch,
-        single,
-        chain,
-        layers: Vec::new(),
-        kept: 0,
-        count: 0,
-        place: None,
-        dropped: None,
-        line: None,
-    };
-    let written = writer.write(&mut case.graph);
-    case.place = writer.place.take();
-    if let Some(line) = writer.line.take() {
-        line.end();
-    }
-    if let Err(halt) = written {
-        writer.count = 0;
-        take_halt(&mut case, halt);
-    }
-    writer.give_locks_back();
-    if case.answer.status == 0 {
-        case.graph = question.places.graph();
-        writer.tell(&mut case, sink);
     }
     Ok(case)
 }
@@ -135,8 +105,52 @@ enum Listed {
     New,
 }
 
-impl Writer<'_> {
-    fn write(&mut self, graph: &mut Graph) -> Result<(), Halt> {
+impl<'a> Writer<'a> {
+    fn new(
+        question: &'a Question<'a>,
+        target: Target,
+        (single, chain): (Lock, Option<Lock>),
+        (graphtool, historytool): (PathBuf, PathBuf),
+        scratch: PathBuf,
+    ) -> Self {
+        Writer {
+            question,
+            target,
+            graphtool,
+            historytool,
+            scratch,
+            single,
+            chain,
+            layers: Vec::new(),
+            kept: 0,
+            count: 0,
+            place: None,
+            dropped: None,
+            line: None,
+        }
+    }
+
+    /// Writes, gives the locks back, and tells what was written, or why nothing was.
+    fn run(mut self, case: &mut Case, sink: &mut dyn Sink) {
+        case.graph = self.question.places.graph();
+        case.has_graph = true;
+        let written = self.write(&case.graph);
+        case.place = self.place.take();
+        if let Some(line) = self.line.take() {
+            line.end();
+        }
+        if let Err(halt) = written {
+            self.count = 0;
+            take_halt(case, halt);
+        }
+        self.give_locks_back();
+        if case.answer.status == 0 {
+            case.graph = self.question.places.graph();
+            self.tell(case, sink);
+        }
+    }
+
+    fn write(&mut self, graph: &Graph) -> Result<(), Halt> {
         if self.question.options().split {
             self.write_layer(graph)
         } else {
@@ -157,7 +171,8 @@ impl Writer<'_> {
         self.exchange_file()
     }
 
-    /// Writes a layer of the commits that the commit-graph lacks, on top of the lowest layers. The others are taken in.
+    /// Writes a layer of the commits that the commit-graph lacks, on top of the lowest layers. The
+    /// others are taken in.
     fn write_layer(&mut self, graph: &Graph) -> Result<(), Halt> {
         let (mut listed, mut below) = (Listed::ByReferences, None);
         if graph.kind != Kind::None {
@@ -216,7 +231,8 @@ impl Writer<'_> {
         Halt::failed(Error::HasFilters, String::new(), advice, cure)
     }
 
-    /// Begins a folder of links, in which the programs find what is written, and the layers below it.
+    /// Begins a folder of links, in which the programs find what is written, and the layers below
+    /// it.
     fn begin_new(&self) -> Result<(), Halt> {
         let folder = self.scratch.join(NEW);
         let begun = fs::create_dir(&folder).and_then(|()| File::create(folder.join(CHAIN_FILE)));
@@ -258,8 +274,8 @@ impl Writer<'_> {
         tool
     }
 
-    /// Notes how many commits each layer that stands has, and its checksum, the lowest first. Both programs have to find them
-    /// right: on top of others nothing is written.
+    /// Notes how many commits each layer that stands has, and its checksum, the lowest first. Both
+    /// programs have to find them right: on top of others nothing is written.
     fn read_layers(&mut self, graph: &Graph) -> Result<(), Halt> {
         if let Some(line) = graph.refused_by_git(self.question.repository.hash) {
             return Err(Halt::Refused(line));
@@ -286,8 +302,8 @@ impl Writer<'_> {
         self.layers.iter().take(self.kept).map(|layer| layer.commits).sum()
     }
 
-    /// The commits that references lead to and that do not stand in the commit-graph. What stands there was found right, and has
-    /// the ancestors of its commits, so that Git may go by it here.
+    /// The commits that references lead to and that do not stand in the commit-graph. What stands
+    /// there was found right, and has the ancestors of its commits, so that Git may go by it here.
     fn find_new(&self) -> Result<Ids, Halt> {
         const NEWEST: [&str; 2] = ["--max-count=10000", "--max-count=100000"];
         let unread = |_| self.refuse_unread(Error::NotCompared.to_string().as_str());
@@ -328,7 +344,8 @@ impl Writer<'_> {
         }
     }
 
-    /// Lists commits into a file, by some options of `git rev-list`, and by the commit-graph where Git has it.
+    /// Lists commits into a file, by some options of `git rev-list`, and by the commit-graph where
+    /// Git has it.
     fn list(&self, name: &str, options: &[&str]) -> Result<PathBuf, Halt> {
         let session = self.question.session;
         let path = self.scratch.join(name);
@@ -351,9 +368,9 @@ impl Writer<'_> {
         }
     }
 
-    /// Chooses how many layers stay as they are. As Git does, a layer takes in those below that are no more than twice as large
-    /// as all that it has then, but for layers of other object folders. A single file of another object folder cannot be a layer,
-    /// and is taken in.
+    /// Chooses how many layers stay as they are. As Git does, a layer takes in those below that are
+    /// no more than twice as large as all that it has then, but for layers of other object folders.
+    /// A single file of another object folder cannot be a layer, and is taken in.
     fn choose_layers(&mut self, graph: &Graph, count: u64) {
         let files = graph.layer_files();
         let mut size = count;
@@ -371,7 +388,8 @@ impl Writer<'_> {
         }
     }
 
-    /// Lists the new commits and those of the layers that are taken in, each once, but for commits that are gone.
+    /// Lists the new commits and those of the layers that are taken in, each once, but for commits
+    /// that are gone.
     fn take_in(&self, new: Ids) -> Result<(), Halt> {
         let refused = || self.refuse_unread(NO_LAYERS);
         let path = self.scratch.join("new-ids");
@@ -430,7 +448,8 @@ impl Writer<'_> {
         made.map_err(|_| self.refuse_unread(NO_FILE))
     }
 
-    /// Makes a file of the commits that are listed, on top of the layers at a path of the folder of a moment, or of none.
+    /// Makes a file of the commits that are listed, on top of the layers at a path of the folder of
+    /// a moment, or of none.
     fn make_file(&mut self, listed: &Listed, below: Option<&str>) -> Result<(), Halt> {
         let statuses = self.run_row(listed, below).map_err(|_| self.refuse_unread(NO_FILE))?;
         self.judge(&statuses)
@@ -468,8 +487,8 @@ impl Writer<'_> {
         })
     }
 
-    /// Git, which lists the commits that references lead to, by the commits themselves, and says meanwhile how many they are,
-    /// where that takes long.
+    /// Git, which lists the commits that references lead to, by the commits themselves, and says
+    /// meanwhile how many they are, where that takes long.
     fn list_referenced(&self) -> Command {
         let mut git = self.question.session.plain_git();
         git.env("GIT_FLUSH", "0").arg("rev-list").stdout(Stdio::piped());
@@ -481,8 +500,8 @@ impl Writer<'_> {
         git
     }
 
-    /// Whether a file was made. Where the list ended early, the others had a part of it. A program that ended since nobody read on
-    /// is not the one that failed.
+    /// Whether a file was made. Where the list ended early, the others had a part of it. A program
+    /// that ended since nobody read on is not the one that failed.
     fn judge(&self, ended: &Statuses) -> Result<(), Halt> {
         const TOO_LARGE: i32 = 153;
         if ended.write == TOO_LARGE {
@@ -507,7 +526,8 @@ impl Writer<'_> {
         }
     }
 
-    /// The line of a refusal, which stands in the place of a file. Where there are no commits nothing is wrong.
+    /// The line of a refusal, which stands in the place of a file. Where there are no commits
+    /// nothing is wrong.
     fn refused(&self) -> Halt {
         let is_empty = fs::metadata(self.scratch.join("ids")).is_ok_and(|file| file.len() == 0);
         if is_empty {
@@ -518,8 +538,8 @@ impl Writer<'_> {
         Halt::Refused(String::from_utf8_lossy(line).into_owned())
     }
 
-    /// Whether both programs find right what is written, at a path of the folder of a moment, and with all of its commits.
-    /// Meanwhile the bytes go to the disk.
+    /// Whether both programs find right what is written, at a path of the folder of a moment, and
+    /// with all of its commits. Meanwhile the bytes go to the disk.
     fn check_new(&mut self, path: &'static str) -> Result<(), Halt> {
         let ids = fs::read(self.scratch.join("ids")).unwrap_or_default();
         self.count = ids.iter().filter(|&&byte| byte == b'\n').count() as u64;
@@ -551,7 +571,8 @@ impl Writer<'_> {
         synced.map_err(|_| self.refuse_full())
     }
 
-    /// Lets the file take its place. From then on it is the one that counts: a chain beside it goes away.
+    /// Lets the file take its place. From then on it is the one that counts: a chain beside it goes
+    /// away.
     fn exchange_file(&mut self) -> Result<(), Halt> {
         let mut made = self.question.session.guard.moment();
         let (from, to) = (&self.single.path, &self.target.single);
@@ -566,8 +587,9 @@ impl Writer<'_> {
         Ok(())
     }
 
-    /// Lets the chain take its place, once its new layer has its name. A file that was a commit-graph by itself becomes a layer
-    /// too if it stays; it counts until it goes away at last.
+    /// Lets the chain take its place, once its new layer has its name. A file that was a
+    /// commit-graph by itself becomes a layer too if it stays; it counts until it goes away at
+    /// last.
     fn exchange_chain(&mut self, graph: &Graph, checksum: &str) -> Result<(), Halt> {
         let mut made = self.question.session.guard.moment();
         let (from, to) = (lock_of(&self.target.chain), &self.target.chain);
@@ -634,7 +656,8 @@ impl Writer<'_> {
         }
     }
 
-    /// Says how many commits were written, and in how many layers they stand with those below, and what is lost.
+    /// Says how many commits were written, and in how many layers they stand with those below, and
+    /// what is lost.
     fn tell(&self, case: &mut Case, sink: &mut dyn Sink) {
         let mut text = format!("ok commits {}", self.count);
         if self.question.options().split && self.count > 0 {
@@ -720,7 +743,8 @@ fn sync_folder(path: &Path) {
     let _ = path.parent().map(|folder| File::open(folder).and_then(|folder| folder.sync_all()));
 }
 
-/// A file could not take its place: the folder may not be written any more, or else what was said of it is told.
+/// A file could not take its place: the folder may not be written any more, or else what was said
+/// of it is told.
 fn refuse_placing(path: &Path, why: &io::Error) -> Halt {
     let folder = path.parent().unwrap_or(Path::new("/"));
     if folder.is_dir() && !may(folder, Right::Write) {

@@ -1,4 +1,5 @@
-//! Makes the texts that an installation has besides: the manual pages, and the completion for shells.
+//! Makes the texts that an installation has besides: the manual pages, and the completion for
+//! shells.
 
 #![forbid(unsafe_code)]
 
