@@ -15,7 +15,7 @@ use crate::commands::Tool;
 use crate::error::Error;
 use crate::guard::Guard;
 use crate::system::{self, Start, SIGPIPE};
-use crate::text::bytes_of;
+use crate::text::{bytes_of, shown};
 
 /// The name by which sentences are said.
 pub const NAME: &str = "git cgraph";
@@ -139,10 +139,16 @@ impl Session {
         status
     }
 
-    /// What a process writes, and its status.
+    /// What a process writes, and its status. Where it cannot be started, that is said.
     pub fn output(&self, command: &mut Command) -> (i32, Vec<u8>) {
-        let child = self.spawn(command.stdout(Stdio::piped()));
-        let ended = child.and_then(Child::wait_with_output);
+        let ended = match self.spawn(command.stdout(Stdio::piped())) {
+            Ok(child) => child.wait_with_output(),
+            Err(error) => {
+                let program = shown(command.get_program());
+                self.say(&format!("{program} cannot be started: {error}"));
+                Err(error)
+            }
+        };
         self.guard.stop_where_ending();
         ended.map_or((127, Vec::new()), |ended| (status_of(ended.status), ended.stdout))
     }
