@@ -283,7 +283,7 @@ impl Graph {
 
     /// Whether the files of the commit-graph tell if there are filters.
     pub fn tells_filters(&self) -> bool {
-        let tells = |path: PathBuf| path.is_file() && tells_chunks(&head_of(&path, TABLE_BYTES));
+        let tells = |path: PathBuf| tells_chunks(&head_of(&path, TABLE_BYTES));
         match self.kind {
             Kind::None => true,
             Kind::File => tells(self.file()),
@@ -344,7 +344,9 @@ pub fn lines_of(content: &[u8]) -> Vec<Vec<u8>> {
 /// The first bytes of a file, or as many as can be read.
 fn head_of(path: &Path, most: u64) -> Vec<u8> {
     let mut head = Vec::new();
-    if let Ok(file) = File::open(path) {
+    // A pipe gives its bytes once, and they are for the program.
+    let opened = path.is_file().then(|| File::open(path).ok()).flatten();
+    if let Some(file) = opened {
         let _ = file.take(most).read_to_end(&mut head);
     }
     head
@@ -363,7 +365,7 @@ fn hash_of(path: &Path) -> Option<Hash> {
 fn is_filtered(path: &Path) -> bool {
     const HEAD: u64 = 256;
     let named = |head: &[u8]| contains(head, b"BDAT") || contains(head, b"BIDX");
-    path.is_file() && named(&head_of(path, HEAD))
+    named(&head_of(path, HEAD))
 }
 
 /// As many bytes as the largest table of chunks has, with the header.

@@ -11,13 +11,14 @@ import sys
 sys.path.insert(0, os.path.dirname(os.path.dirname(os.path.abspath(__file__))))
 
 from results import Results
-from wrappers import commits, completions, coverage, installs, json_answers, packages, pasted, questions, releases, repositories, sentences, tools, writes
+from wrappers import commits, completions, coverage, hostile, installs, json_answers, packages, pasted, questions, releases, repositories, sentences, tools, writes
 
 
 def main():
     """Runs the checks, and answers the exit status."""
     results = Results()
-    for part in (tools, sentences, questions, repositories, commits, coverage, writes, pasted, json_answers, installs, completions, packages, releases):
+    parts = (tools, sentences, questions, repositories, commits, coverage, writes, hostile, pasted, json_answers, installs, completions)
+    for part in (*parts, packages, releases):
         part.check_all(results)
     return results.finish()
 
