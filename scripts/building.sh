@@ -91,7 +91,7 @@ build() {
 # Whether `git cgraph` is there, and no source of it, code or table, changed after it was built.
 is_cgraph_current() {
     [ -x "$cgraph" ] && [ -x "$cgraph-texts" ] || return 1
-    for source in "$top"/cgraph/Cargo.toml "$top"/cgraph/src/*.rs "$top"/cgraph/src/bin/*.rs "$top/VERSION" \
+    for source in "$top"/cgraph/Cargo.toml "$top"/cgraph/src/*.rs "$top"/cgraph/src/*/*.rs "$top/VERSION" \
         "$top/docs/MANUAL.md" "$top/docs/REFUSALS.md" "$top/docs/PROGRAMS.md" "$top/scripts/commands"; do
         [ ! "$source" -nt "$cgraph" ] || return 1
     done

@@ -9,6 +9,69 @@ use crate::commands;
 use crate::help::{commands_before, first_word, MANUAL};
 use crate::manual::{parts_of, Part};
 
+/// The completion for bash, with names for what differs.
+const BASH: &str = r#"# Completion of `git cgraph` for bash, which Git's own completion finds by the name of this function.
+
+_git_cgraph() {
+    local commands='@COMMANDS@' options='@OPTIONS@'
+    local command
+    command=$(__git_find_on_cmdline "$commands")
+    case $prev in
+    @FOLDERS@)
+        compopt -o filenames 2>/dev/null
+        mapfile -t COMPREPLY < <(compgen -d -- "$cur")
+        return
+        ;;
+    esac
+    case $command,$cur in
+@OWN@
+    *,-*) __gitcomp "$options" ;;
+    ,*) __gitcomp "$commands" ;;
+    @WITH_COMMITS@) __git_complete_refs ;;
+    esac
+}
+
+if declare -F __git_complete >/dev/null; then
+    __git_complete git-cgraph _git_cgraph
+fi
+"#;
+
+/// The same for zsh.
+const ZSH: &str = r#"#compdef git-cgraph
+#description @TITLE@
+
+# Completion of `git cgraph` for zsh, which its completion of Git finds by the name of this file.
+
+_git-cgraph() {
+  local curcontext=$curcontext state line ret=1
+  local -A opt_args
+  local -a commands options operands commits expl
+  commands=(
+@COMMANDS@
+  )
+  options=(
+@OPTIONS@
+  )
+  _arguments -C $options '(-): :->command' '(-)*:: :->operands' && ret=0
+  case $state in
+  command) _describe -t commands 'command' commands && ret=0 ;;
+  operands)
+    case $words[1] in
+@OPERANDS@
+    esac
+    _arguments -C $options $operands && ret=0
+    ;;
+  esac
+  if [[ $state == commits ]]; then
+    commits=(HEAD ${(f)"$(_call_program commits git for-each-ref --format='%\(refname:short\)' 2>/dev/null)"})
+    _wanted commits expl commit compadd -a commits && ret=0
+  fi
+  return ret
+}
+
+_git-cgraph "$@"
+"#;
+
 /// The completion for a shell, if it is one of these.
 pub fn completion(shell: &str) -> Option<String> {
     let all = All::read();
@@ -116,57 +179,34 @@ impl All {
     fn bash(&self) -> String {
         let folders = self.options.iter().filter(|option| option.takes == "<folder>");
         let folders: Vec<&str> = folders.map(|option| option.name.as_str()).collect();
-        let mut text = format!(
-            "# Completion of `git cgraph` for bash, which Git's own completion finds by the name of this function.\n\n\
-             _git_cgraph() {{\n    local commands='{}' options='{}'\n    local command\n    \
-             command=$(__git_find_on_cmdline \"$commands\")\n    case $prev in\n    {})\n        \
-             compopt -o filenames 2>/dev/null\n        mapfile -t COMPREPLY < <(compgen -d -- \"$cur\")\n        \
-             return\n        ;;\n    esac\n    case $command,$cur in\n",
-            self.words(),
-            self.shared_with(""),
-            folders.join(" | ")
-        );
+        let mut own_options = String::new();
         for Command { word, .. } in &self.commands {
             let own = self.own_of(word);
             if self.is_left_out(word) {
-                text +=
-                    &format!("    {word},-*) __gitcomp \"{own}{}\" ;;\n", self.shared_with(word));
+                let shared = self.shared_with(word);
+                own_options += &format!("    {word},-*) __gitcomp \"{own}{shared}\" ;;\n");
             } else if !own.is_empty() {
-                text += &format!("    {word},-*) __gitcomp \"{own}$options\" ;;\n");
+                own_options += &format!("    {word},-*) __gitcomp \"{own}$options\" ;;\n");
             }
         }
-        let with_commits: Vec<String> =
-            self.with_commits().map(|it| format!("{},*", it.word)).collect();
-        text + &format!(
-            "    *,-*) __gitcomp \"$options\" ;;\n    ,*) __gitcomp \"$commands\" ;;\n    {}) __git_complete_refs ;;\n    \
-             esac\n}}\n\nif declare -F __git_complete >/dev/null; then\n    __git_complete git-cgraph _git_cgraph\nfi\n",
-            with_commits.join(" | ")
-        )
+        let with_commits = self.with_commits().map(|command| format!("{},*", command.word));
+        BASH.replace("@COMMANDS@", &self.words())
+            .replace("@OPTIONS@", &self.shared_with(""))
+            .replace("@FOLDERS@", &folders.join(" | "))
+            .replace("@OWN@\n", &own_options)
+            .replace("@WITH_COMMITS@", &with_commits.collect::<Vec<_>>().join(" | "))
     }
 
     fn zsh(&self) -> String {
-        let mut text = format!(
-            "#compdef git-cgraph\n#description {}\n\n# Completion of `git cgraph` for zsh, which its completion of Git \
-             finds by the name of this file.\n\n_git-cgraph() {{\n  local curcontext=$curcontext state line ret=1\n  \
-             local -A opt_args\n  local -a commands options operands commits expl\n  commands=(\n",
-            self.title
-        );
-        for Command { word, about, .. } in &self.commands {
-            text += &format!("    {}\n", zsh_quoted(&format!("{word}:{about}")));
-        }
-        text += "  )\n  options=(\n";
-        for option in self.options.iter().filter(|option| option.is_shared()) {
-            text += &format!("    {}\n", zsh_option(option));
-        }
-        text += "  )\n  _arguments -C $options '(-): :->command' '(-)*:: :->operands' && ret=0\n  case $state in\n  \
-                 command) _describe -t commands 'command' commands && ret=0 ;;\n  operands)\n    case $words[1] in\n";
-        for command in &self.commands {
-            text += &self.zsh_command(command);
-        }
-        text + "    esac\n    _arguments -C $options $operands && ret=0\n    ;;\n  esac\n  \
-                if [[ $state == commits ]]; then\n    \
-                commits=(HEAD ${(f)\"$(_call_program commits git for-each-ref --format='%\\(refname:short\\)' 2>/dev/null)\"})\n    \
-                _wanted commits expl commit compadd -a commits && ret=0\n  fi\n  return ret\n}\n\n_git-cgraph \"$@\"\n"
+        let about = |command: &Command| zsh_quoted(&format!("{}:{}", command.word, command.about));
+        let commands = self.commands.iter().map(|command| format!("    {}\n", about(command)));
+        let shared = self.options.iter().filter(|option| option.is_shared());
+        let options = shared.map(|option| format!("    {}\n", zsh_option(option)));
+        let operands = self.commands.iter().map(|command| self.zsh_command(command));
+        ZSH.replace("@TITLE@", &self.title)
+            .replace("@COMMANDS@\n", &commands.collect::<String>())
+            .replace("@OPTIONS@\n", &options.collect::<String>())
+            .replace("@OPERANDS@\n", &operands.collect::<String>())
     }
 
     /// What stands after a command.

@@ -101,7 +101,8 @@ impl Links {
             return advice.to_owned();
         }
         format!(
-            "{advice}. The commit-graph becomes this repository's own, in the place of a link to '{}'",
+            "{advice}. The commit-graph becomes this repository's own, in the place of a link to \
+             '{}'",
             shown(&self.stray)
         )
     }

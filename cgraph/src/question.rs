@@ -127,7 +127,8 @@ impl Question<'_> {
         }
         if self.repository.is_shallow {
             said.push(
-                "this repository is shallow: Git answers as if the commits at its end had no parents"
+                "this repository is shallow: Git answers as if the commits at its end had no \
+                 parents"
                     .to_owned(),
             );
         }

@@ -301,22 +301,25 @@ fn say_unused(case: &mut Case) {
 /// Says what the commit-graph lacks, or has that is gone, and how it is written so that this is not
 /// so.
 fn say_uncovered(case: &mut Case, coverage: Coverage) {
-    match coverage.missing {
+    let Coverage { missing, gone, .. } = coverage;
+    match missing {
         0 => {}
-        1 => case.warn("1 reachable commit is not in the commit-graph: Git has to read the commit itself"),
-        count => case.warn(&format!(
-            "{count} reachable commits are not in the commit-graph: Git has to read the commits themselves"
+        1 => case.warn(
+            "1 reachable commit is not in the commit-graph: Git has to read the commit itself",
+        ),
+        _ => case.warn(&format!(
+            "{missing} reachable commits are not in the commit-graph: Git has to read the commits \
+             themselves"
         )),
     }
-    match coverage.gone {
+    let refuses = "for which 'git commit-graph verify' refuses it";
+    match gone {
         0 => {}
-        1 => case.warn("1 commit of the commit-graph is gone, for which 'git commit-graph verify' refuses it"),
-        count => case.warn(&format!(
-            "{count} commits of the commit-graph are gone, for which 'git commit-graph verify' refuses it"
-        )),
+        1 => case.warn(&format!("1 commit of the commit-graph is gone, {refuses}")),
+        _ => case.warn(&format!("{gone} commits of the commit-graph are gone, {refuses}")),
     }
-    if (coverage.missing, coverage.gone) != (0, 0) {
-        advise_covering(case, coverage.gone > 0);
+    if (missing, gone) != (0, 0) {
+        advise_covering(case, gone > 0);
         case.question.session.tell(&what_to_do(&case.known.advice, &case.known.cure));
     }
 }

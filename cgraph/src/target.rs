@@ -157,7 +157,8 @@ impl Target {
         let place = format!("the lock is {words}");
         if !self.is_own(question) {
             let advice = format!(
-                "wait for whoever writes it. If nobody does, ask whoever keeps '{}' to remove the lock",
+                "wait for whoever writes it. If nobody does, ask whoever keeps '{}' to remove the \
+                 lock",
                 shown(&self.folder)
             );
             return Halt::failed(Error::Locked, place, advice, Vec::new());

@@ -467,7 +467,7 @@ LACKING = (
         "Keep the commit-graph", graph_stays, ALL),
     Row("a commit that is gone", "advise_anew", missing(None), ["verify", "--objects"], ANEW, "so that Git removed it", spots=ALL),
     Row("a damaged commit", "diagnose_damaged", ruined, ["verify", "--objects"], ("{here} fsck",), "which objects are damaged", nothing),
-    Row("a commit of a partial clone", "diagnose_missing", partial_clone, ["verify", "--objects"], ("{here} cat-file -e {commit}",),
+    Row("a commit of a partial clone", "is_past_the_end", partial_clone, ["verify", "--objects"], ("{here} cat-file -e {commit}",),
         "let Git fetch it"),
     Row("a name of a lost commit", "of_revisions", missing("refs/heads/later"), ["find", "later"], ("{here} fsck",),
         "which objects are missing", graph_stays, ("plain", "odd", "bare")),
@@ -505,7 +505,7 @@ ROWS = DAMAGED + OTHERS + UNUSED + LACKING + KEPT
 CALLERS = {"finish", "take_halt", "unwritten", "failed", "advise_without", "find_obstacle", "name_closed", "advise_own", "git_with", "writes_by"}
 """Functions that print the commands of others, or none."""
 
-SOURCES = tuple("cgraph/src/%s.rs" % name for name in ("answers", "cures", "diagnosis", "lost", "show", "target", "write"))
+SOURCES = tuple("cgraph/src/%s.rs" % name for name in ("answers", "cures", "diagnosis", "lost", "show", "target", "write", "write/making", "write/placing"))
 FUNCTION = re.compile(r" *(?:pub )?fn (\w+)")
 PRINTS = re.compile(r"""known\.cure(?: = |\.push|\.extend)|let (?:mut )?cure = |vec!\[format!|format!\(\s*"(?:rm|ls|df|mkdir|\{git\}) """)
 READS = {"git rev-parse NAME", "git cat-file --batch", "git fsck", "git rev-list --all", "git commit-graph verify"}
