@@ -326,7 +326,7 @@ pub fn is_layer_name(name: &[u8]) -> bool {
 
 /// The name of the layer with a checksum.
 pub fn layer_name(checksum: &[u8]) -> OsString {
-    OsString::from_vec([b"graph-", checksum, b".graph"].concat())
+    OsString::from_vec([&b"graph-"[..], checksum, b".graph"].concat())
 }
 
 /// The lines of a chain file as the programs read them: a CR before an end is left out.
