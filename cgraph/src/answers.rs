@@ -11,7 +11,7 @@ use crate::commands::{Takes, Tool};
 use crate::diagnosis::Case;
 use crate::error::Error;
 use crate::fields::fields_of;
-use crate::graph::{Kind, Places};
+use crate::graph::{Graph, Kind, Places};
 use crate::json::{Object, Value};
 use crate::known::{what_to_do, Explained, Known};
 use crate::objects;
@@ -103,13 +103,7 @@ fn ask(
     *repository = env::current_dir().ok();
     let found = Repository::find(session, &words.revisions)?;
     *repository = Some(found.repository.common.clone());
-    let mut sink: Box<dyn Sink + '_> = if words.in_json() {
-        Box::new(LinesFile::begin(scratch)?)
-    } else if words.options.quiet {
-        Box::new(Silence)
-    } else {
-        Box::new(Plain(session))
-    };
+    let mut sink = sink_of(session, words, scratch)?;
     let named = words.options.object_dir.as_ref().filter(|path| !path.as_os_str().is_empty());
     let named = match named {
         Some(path) => Some(from_root(path).ok_or_else(|| Error::Closed(path.clone()))?),
@@ -131,6 +125,21 @@ fn ask(
     };
     let case = answer_question(&question, sink.as_mut())?;
     Ok(finish(case, sink.as_mut()))
+}
+
+/// Where the lines of an answer go.
+fn sink_of<'a>(
+    session: &'a Session,
+    words: &Words,
+    scratch: &'a Scratch,
+) -> Result<Box<dyn Sink + 'a>, Error> {
+    Ok(if words.in_json() {
+        Box::new(LinesFile::begin(scratch)?)
+    } else if words.options.quiet {
+        Box::new(Silence)
+    } else {
+        Box::new(Plain(session))
+    })
 }
 
 /// What to do about names that name no commit.
@@ -205,11 +214,7 @@ pub fn ask_program<'a>(
     for _ in 0..TRIES {
         let graph = question.places.graph();
         let before = graph.identity();
-        let alone = match question.words.word() {
-            "verify" | "check" | "distinct" | "show" => true,
-            "ask" => asked.alone,
-            _ => !is_there(&graph.chain_file()),
-        };
+        let alone = is_alone(question, &asked, &graph);
         let place = graph.place(question.scratch, alone)?;
         let mut words = vec![asked.word];
         words.extend(question.options().unchecked.then_some("--unchecked"));
@@ -238,6 +243,15 @@ pub fn ask_program<'a>(
     );
     case.asked = asked.of;
     Ok(case)
+}
+
+/// Whether a file is named by itself, and not by the folder in which a chain may be beside it.
+fn is_alone(question: &Question, asked: &Asked, graph: &Graph) -> bool {
+    match question.words.word() {
+        "verify" | "check" | "distinct" | "show" => true,
+        "ask" => asked.alone,
+        _ => !is_there(&graph.chain_file()),
+    }
 }
 
 /// Asks both programs for all that they check: `distinct` of the one, whose lines are those of

@@ -46,9 +46,18 @@ impl Made {
         for file in self.files.drain(..) {
             let _ = fs::remove_file(file);
         }
-        for folder in self.folders.drain(..) {
-            let _ = fs::remove_dir_all(folder);
+        self.folders.drain(..).for_each(|folder| remove_folder(&folder));
+    }
+}
+
+/// Removes a folder. Another thread may put a last file there, before it stops.
+fn remove_folder(folder: &Path) {
+    const TRIES: usize = 10;
+    for _ in 0..TRIES {
+        if fs::remove_dir_all(folder).is_ok() || !folder.exists() {
+            return;
         }
+        thread::sleep(Duration::from_millis(5));
     }
 }
 
@@ -67,7 +76,11 @@ impl Guard {
         numbers.retain(|&number| !start.ignores(number));
         let set = system::hold_back(&numbers);
         let watched = Arc::clone(&guard);
-        thread::spawn(move || watched.end(system::wait_for(&set)));
+        let waiting = thread::Builder::new().spawn(move || watched.end(system::wait_for(&set)));
+        if let Err(error) = waiting {
+            eprintln!("git cgraph: no thread can be started: {error}");
+            std::process::exit(128);
+        }
         guard
     }
 

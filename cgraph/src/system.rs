@@ -16,6 +16,7 @@ pub const SIGQUIT: c_int = 3;
 pub const SIGKILL: c_int = 9;
 pub const SIGPIPE: c_int = 13;
 pub const SIGTERM: c_int = 15;
+const SIGCHLD: c_int = 17;
 const SIGXFSZ: c_int = 25;
 
 const DEFAULT: usize = 0;
@@ -104,17 +105,18 @@ impl Start {
 
 /// Holds these signals back from all threads that begin from now on, and from this one, so that
 /// [`wait_for`] gets them. A file that grows too large is from now on an error of a write, and no
-/// signal.
+/// signal; and the end of a process can be waited for, also where the parent would not do that.
 pub fn hold_back(numbers: &[c_int]) -> SignalSet {
     let set = set_of(numbers);
-    // SAFETY: `set` is a set that was made, and the old mask is not asked for. SIGPIPE and SIGXFSZ
-    // get no handler.
+    // SAFETY: `set` is a set that was made, and the old mask is not asked for. No signal gets a
+    // handler.
     unsafe {
         pthread_sigmask(SIG_BLOCK, &set, std::ptr::null_mut());
         if numbers.contains(&SIGPIPE) {
             signal(SIGPIPE, DEFAULT);
         }
         signal(SIGXFSZ, IGNORED);
+        signal(SIGCHLD, DEFAULT);
     }
     set
 }

@@ -67,6 +67,10 @@ def check_no_git(results, written, path):
     answer = run([path, "verify"], {**written.clone.surroundings(), "PATH": "/nonexistent"}, cwd=written.folder)
     right = answer[:2] == (128, "") and "git cannot be started: " in answer.err and answer.err.endswith(said(["Git tells of no repository here"]))
     results.check("git-cgraph, with no Git", None if right else "it is %r" % (answer,))
+    ignoring = lambda: signal.signal(signal.SIGCHLD, signal.SIG_IGN)
+    answer = run([path, "verify"], written.clone.surroundings(), cwd=written.folder, preexec_fn=ignoring)
+    complaint = exactly(answer, 0, "ok commits %d longest 1\n" % len(written.ids()))
+    results.check("git-cgraph, of a parent that ignores SIGCHLD", complaint)
 
 
 def check_alternates(results, written, path, pools):
