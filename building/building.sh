@@ -1,5 +1,5 @@
-# Proves and builds programs and the library for C: sourced by building/program, building/library and building/install, with
-# the clone's folder in `top`.
+# Proves and builds programs and the library for C, and builds `git cgraph`: sourced by building/program, building/library,
+# building/install and git-cgraph, with the clone's folder in `top`.
 #
 #     build graphtool historytool commitgraph_c
 #
@@ -12,6 +12,7 @@ archive=$out/libcommitgraph.a
 shared=$out/libcommitgraph.so
 header=$top/bindings/c/commitgraph.h
 soname=libcommitgraph.so.1
+cgraph=$top/cgraph/target/release/git-cgraph
 
 # Prints the path of what is proved: of a program, or of the library with all of its names.
 proved() {
@@ -85,4 +86,25 @@ build() {
         python3 "$top/building/proving.py" $old >&2
     fi
     [ $merges = no ] || merge >&2
+}
+
+# Whether `git cgraph` is there, and no source of it, code or table, changed after it was built.
+is_cgraph_current() {
+    [ -x "$cgraph" ] && [ -x "$cgraph-texts" ] || return 1
+    for source in "$top"/cgraph/Cargo.toml "$top"/cgraph/src/*.rs "$top"/cgraph/src/*/*.rs "$top/VERSION" \
+        "$top/docs/MANUAL.md" "$top/tables/refusals.tsv" "$top/docs/PROGRAMS.md" "$top/tables/commands"; do
+        [ ! "$source" -nt "$cgraph" ] || return 1
+    done
+}
+
+# Builds `git cgraph`, at the path `cgraph`, if it is not built yet, or older than a source.
+build_cgraph() {
+    ! is_cgraph_current || return 0
+    if ! command -v cargo >/dev/null; then
+        echo "$names: for the build, the command cargo of Rust 1.77 or later has to be on the PATH" >&2
+        return 1
+    fi
+    echo 'git cgraph: building; the first time takes some seconds' >&2
+    cargo build --quiet --release --offline --manifest-path "$top/cgraph/Cargo.toml" --target-dir "$top/cgraph/target" >&2 || return 1
+    touch "$cgraph"
 }

@@ -12,6 +12,7 @@ PLACES = (
     ("VERSION", re.compile(r"^()(\S+)(?=, proved with )")),
     ("crates/historytool/src/main.rt", re.compile(r'^(const VERSION: &str = "historytool )(\S+)(?=, proved with )', re.MULTILINE)),
     ("crates/historytool/stdout", re.compile(r"^(historytool )(\S+)(?=, proved with )")),
+    ("cgraph/Cargo.toml", re.compile(r'^(version = ")(.*)(?="$)', re.MULTILINE)),
     ("bindings/rust/Cargo.toml", re.compile(r'^(version = ")(.*)(?="$)', re.MULTILINE)),
 )
 """Each file that names the number, and what stands before and after it there."""

@@ -1,9 +1,9 @@
-# What `git cgraph`, `graphtool` and `historytool` have in common. They read this file with `.`, with `top` set
-# to the folder in which they stand and `name` to what they call themselves. It defines functions, and runs nothing.
+# What `graphtool` and `historytool` have in common. They read this file with `.`, with `top` set to the folder in which they
+# stand and `name` to what they call themselves. It defines functions, and runs nothing.
 
 newline='
 '
-passes=pass_on rewrite='' holds='' beside='' cause='' where='' file='' advice='' cure='' note='' commit='' warnings='' opened=''
+passes=pass_on cause='' where='' advice='' opened=''
 
 # Says one line on standard error.
 say() {
@@ -29,15 +29,13 @@ find_program() {
     return 1
 }
 
-# Runs a program with some words, and passes on what it writes by the function `passes`, through the command `rewrite` where
-# that is not empty, but for a refusal where `holds` is `yes`. Sets `status` to its status, `line` to the first line that it
-# wrote, and `said` to what it wrote on standard error. Where the answer could not be written, or a signal ended the
-# program, `line` and `said` tell of that, and `status` is 2 or that of the signal; `passed` is more than 128 where
-# nobody reads the answer any more.
+# Runs a program with some words, and passes on what it writes by the function `passes`. Sets `status` to its status, `line` to the
+# first line that it wrote, and `said` to what it wrote on standard error. Where the answer could not be written, or a signal ended
+# the program, `line` and `said` tell of that, and `status` is 2 or that of the signal.
 #
 # Standard output is 3 here, and 4 leads to the variable `told`.
 ask() {
-    line='' said='' held='' status=2 passed=1
+    line='' said='' status=2 passed=1
     if (exec 3>&1) 2>/dev/null; then
         exec 3>&1
         told=$({ { "$@" 2>&4 3>&- 4>&-; echo "status $?" >&4; } | "$passes" >&3 2>/dev/null; } 4>&1)
@@ -55,20 +53,14 @@ ask() {
     said="$name: $line$newline"
 }
 
-# Copies standard input to standard output, through `rewrite`. Its first line goes to 4 before that, so that nothing
-# is written for a command that was ended meanwhile. Where `holds` is `yes`, a line of a refusal is left to the caller.
+# Copies standard input to standard output. Its first line goes to 4 before that, so that nothing is written for a command that was
+# ended meanwhile.
 pass_on() {
     if ! IFS= read -r line; then
         printf %s "$line"
         return
     fi
-    printf 'line %s\n' "$line" >&4 || return
-    case $holds,$line in yes,'refused '*) return ;; esac
-    if [ -z "$rewrite" ]; then
-        printf '%s\n' "$line" && cat
-    else
-        { printf '%s\n' "$line" && cat; } | "$rewrite"
-    fi
+    printf 'line %s\n' "$line" >&4 && printf '%s\n' "$line" && cat
 }
 
 # As `pass_on`, where the answer may be the bytes of a commit-graph file in place of lines: these begin with a C, as no line
@@ -82,7 +74,7 @@ pass_bytes_on() {
     fi
 }
 
-# Sets `line`, `held`, `status` and `said` from the lines of what was told of a program.
+# Sets `line`, `status` and `said` from the lines of what was told of a program.
 take_apart() {
     rest=$1$newline
     while [ -n "$rest" ]; do
@@ -90,7 +82,6 @@ take_apart() {
         rest=${rest#*"$newline"}
         case $part in
         'line '*) line=${part#line } ;;
-        'held '*) held=$held${part#held }$newline ;;
         'status '*) status=${part#status } ;;
         *) said="$said$part$newline" ;;
         esac
@@ -101,9 +92,9 @@ take_apart() {
 # and what to do: report COMMAND PATH [ID..], as the program was asked.
 report() {
     printf %s "$said" >&2
-    if [ "$status,$beside" != 0, ]; then
-        [ "$name" = 'git cgraph' ] || look_at_graph "$@"
-        explain '' "$@" >&2
+    if [ "$status" -ne 0 ]; then
+        look_at_graph "$@"
+        explain "$@" >&2
     fi
 }
 
@@ -289,18 +280,15 @@ layer_of_position() {
     '
 }
 
-# Says what `line` means and what to do, by tables/refusals.tsv: explain FORM COMMAND PATH [ID..]. `beside` is the
-# line of another row, which has to be said too, or empty. What is known besides stands in `cause`, what happened, in place of
-# what the table has; `where`, a sentence on the file of which the line speaks; `advice`, what to do in place of what the table
-# has; `opened`, the files to be removed where a graph is written anew; `cure`, the commands by which that is done; and `note`,
-# what these may lose. Each is empty where nothing is known. In the form `json` it writes the fields of an object, with the path
-# `file`, if `cause` or `where` speaks of it, and with `warnings`.
+# Says what `line` means and what to do, by tables/refusals.tsv: explain COMMAND PATH [ID..]. What is known besides
+# stands in `cause`, what happened, in place of what the table has; `where`, a sentence on the file of which the line speaks;
+# `advice`, what to do in place of what the table has; and `opened`, the files to be removed where a graph is written anew. Each is
+# empty where nothing is known.
 explain() {
-    form=$1 command=$2 path=$3 names_file=$cause$where
-    shift 3
-    NAME=$name FORM=$form LINE=$line COMMAND=$command IDS=$* COMMIT=${commit:-$(commit_at "$path")} BESIDE=$beside \
-        CAUSE=$cause WHERE=$where FILE=${names_file:+$file} ADVICE=$advice OPENED=$opened CURE=$cure NOTE=$note \
-        WARNINGS=$warnings SIGNAL=$(signal_named) LC_ALL=C awk -f "$top/shell/json.awk" -f "$top/shell/explain.awk" "$top/tables/refusals.tsv"
+    command=$1 path=$2
+    shift 2
+    NAME=$name LINE=$line COMMAND=$command IDS=$* COMMIT=$(commit_at "$path") CAUSE=$cause WHERE=$where ADVICE=$advice \
+        OPENED=$opened SIGNAL=$(signal_named) LC_ALL=C awk -f "$top/shell/explain.awk" "$top/tables/refusals.tsv"
 }
 
 # The number and the name of the signal that ended a program.

@@ -1,12 +1,9 @@
-# Says in sentences what a line of an answer means and what to do, by the table tables/refusals.tsv, which it
-# reads, after shell/json.awk. The surroundings give LINE, COMMAND, the word by which the program was asked, NAME, the
-# name to speak by, and, each of them empty where it is not known, IDS, the ids that were asked about, COMMIT, the id of the
-# commit at the position that the line names, BESIDE, the line of another row, which is said too: what to do is then as
-# that row has it; CAUSE, what happened in the place of what the row has; WHERE, a sentence on the file of which the line
-# speaks; ADVICE, what to do in the place of what the row has; OPENED, the files to be removed where a graph is written anew;
-# CURE, the commands by which that is done, a line for each; NOTE, a sentence on what these may lose; and SIGNAL, the number
-# and the name of a signal. Where FORM is `json`, the same is written as fields of a JSON object, with FILE, the path of the
-# file, and WARNINGS, what else was said, as texts of JSON with commas between them.
+# Says in sentences what a line of an answer means and what to do, by the table tables/refusals.tsv, which it reads. The
+# surroundings give LINE, COMMAND, the word by which the program was asked, NAME, the name to speak by, and, each of them empty
+# where it is not known, IDS, the ids that were asked about, COMMIT, the id of the commit at the position that the line names;
+# CAUSE, what happened in the place of what the row has; WHERE, a sentence on the file of which the line speaks; ADVICE, what to
+# do in the place of what the row has; OPENED, the files to be removed where a graph is written anew; and SIGNAL, the number and
+# the name of a signal.
 #
 # A row is that of the line if its own has the same words, where a capital letter stands for any number, and the line may
 # have more words at its end. Of several such rows the one with the most words is taken, of those one that is for the
@@ -18,7 +15,6 @@ BEGIN {
     line = ENVIRON["LINE"]
     command = ENVIRON["COMMAND"]
     detail = detail_of(line)
-    beside = ENVIRON["BESIDE"]
 }
 
 NR == 1 { for (at = 1; at <= NF; at++) column[$at] = at }
@@ -30,41 +26,20 @@ END {
         happened[line] = happened[line] ": " happened[detail]
     }
     if (ENVIRON["SIGNAL"] != "") value["S"] = ENVIRON["SIGNAL"]
-    if (ENVIRON["FORM"] == "json") write_fields()
-    else if (best[line] || beside != "") say_all()
+    if (best[line]) say_all()
 }
 
 function say_all() {
     if (ENVIRON["COMMIT"] != "") say("the commit " (value["P"] == "" ? "" : "at position " value["P"] " ") "is " ENVIRON["COMMIT"])
     if (line ~ /^refused id / && no_id() != "") say("'" no_id() "' is not an id")
-    if (best[line]) say(what_happened())
-    if (beside != "") {
-        say(beside)
-        say(happened[beside])
-    }
+    say(ENVIRON["CAUSE"] != "" ? ENVIRON["CAUSE"] : with_values(happened[line]))
     if (ENVIRON["WHERE"] != "") say(ENVIRON["WHERE"])
     tell_cure(to_be_done())
 }
 
-# What happened, by the row of the line, where no more than that is known.
-function what_happened() {
-    return ENVIRON["CAUSE"] != "" ? ENVIRON["CAUSE"] : with_values(happened[line])
-}
-
-# What to do, by the row of the line that stands beside, if there is one.
+# What to do, by the row of the line.
 function to_be_done() {
-    if (ENVIRON["ADVICE"] != "") return ENVIRON["ADVICE"]
-    return with_values(cure[beside != "" ? beside : line])
-}
-
-# Whether the commands by which a commit-graph is written anew are a part of what to do.
-function has_commands(text) {
-    return (text ~ /write it anew/ || ENVIRON["ADVICE"] != "") && ENVIRON["CURE"] != ""
-}
-
-# The sentence that follows on what to do, if there is one.
-function noted() {
-    return ENVIRON["NOTE"] == "" ? "" : ". " ENVIRON["NOTE"]
+    return ENVIRON["ADVICE"] != "" ? ENVIRON["ADVICE"] : with_values(cure[line])
 }
 
 # How a commit-graph is written anew: one whose files are known, or any other.
@@ -75,36 +50,12 @@ function anew_in_words(    text) {
 }
 
 # Says what to do, and how a commit-graph is written anew where that is a part of it.
-function tell_cure(text,    anew) {
-    anew = anew_in_words()
-    if (has_commands(text)) {
-        say("what to do: " text noted() ":")
-        printf "%s\n", ENVIRON["CURE"]
-    } else if (text == "write it anew") say("what to do: " anew)
+function tell_cure(text) {
+    if (text == "write it anew") say("what to do: " anew_in_words())
     else {
         if (text != "") say("what to do: " text)
-        if (text ~ /write it anew/) say("to write it anew, " anew)
+        if (text ~ /write it anew/) say("to write it anew, " anew_in_words())
     }
-}
-
-# Writes the fields: those alone of which something is known. Commands with a byte that is no UTF-8 would name another path.
-function write_fields(    warnings, text) {
-    warnings = ENVIRON["WARNINGS"]
-    if (beside != "") warnings = warnings (warnings == "" ? "" : ",") text_of(beside ": " happened[beside])
-    if (warnings != "") printf ",\"warnings\":[%s]", warnings
-    write_field("error", line)
-    if (best[line]) write_field("reason", what_happened())
-    write_field("where", ENVIRON["WHERE"])
-    write_field("file", ENVIRON["FILE"])
-    write_field("commit", line ~ /^unknown / ? nth_id(value["N"]) : ENVIRON["COMMIT"])
-    text = to_be_done()
-    if (text == "write it anew" && ENVIRON["CURE"] == "") text = anew_in_words()
-    write_field("advice", has_commands(text) ? text noted() : text)
-    if (has_commands(text) && is_readable(ENVIRON["CURE"])) printf ",\"cure\":%s", commands_of(ENVIRON["CURE"])
-}
-
-function write_field(name, text) {
-    if (text != "") printf ",\"%s\":%s", name, text_of(text)
 }
 
 # The line of the table that explains the last number of this one, if there is one.
@@ -123,7 +74,6 @@ function cell(title) {
 function look(text) {
     keep(text, line)
     if (detail != "") keep(text, detail)
-    if (beside != "") keep(text, beside)
     keep(text, "write it anew")
     keep(text, "write FILES anew")
 }
@@ -177,11 +127,6 @@ function with_values(text,    letter, start, whole, more) {
         text = whole text
     }
     return text
-}
-
-function nth_id(number,    ids) {
-    split(ENVIRON["IDS"], ids, " ")
-    return ids[number]
 }
 
 # The first of the ids that were asked about which is none, or nothing.

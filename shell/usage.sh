@@ -1,4 +1,4 @@
-# The words that `git cgraph`, `graphtool` and `historytool` take, by the table tables/commands. They read this file with
+# The words that `graphtool` and `historytool` take, by the table tables/commands. They read this file with
 # `.`, with `top` set to the folder in which they stand and `name` to what they call themselves. It defines functions, and
 # runs nothing.
 

@@ -179,3 +179,33 @@ int fchmodat(int start, const char *path, mode_t mode, int flags)
     count_at(start, path);
     return REAL(fchmodat, start, path, mode, flags);
 }
+
+int rename(const char *from, const char *to)
+{
+    count_at(AT_FDCWD, to);
+    return REAL(rename, from, to);
+}
+
+int link(const char *from, const char *to)
+{
+    count_at(AT_FDCWD, to);
+    return REAL(link, from, to);
+}
+
+int symlink(const char *target, const char *path)
+{
+    count_at(AT_FDCWD, path);
+    return REAL(symlink, target, path);
+}
+
+int unlink(const char *path)
+{
+    count_at(AT_FDCWD, path);
+    return REAL(unlink, path);
+}
+
+int chmod(const char *path, mode_t mode)
+{
+    count_at(AT_FDCWD, path);
+    return REAL(chmod, path, mode);
+}

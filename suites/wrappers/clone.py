@@ -3,6 +3,7 @@
 import os
 import shutil
 import subprocess
+from functools import lru_cache
 from typing import NamedTuple
 
 TOP = os.path.dirname(os.path.dirname(os.path.dirname(os.path.abspath(__file__))))
@@ -10,20 +11,22 @@ TOOLS = ("sh", "awk", "cat", "chmod", "cp", "dirname", "find", "git", "id", "ln"
 MORE_TOOLS = ("comm", "grep", "head", "od", "sed", "sleep", "sort", "stat", "sync", "tail", "tee", "touch", "tr", "wc")
 PROGRAMS = ("graphtool", "historytool")
 COPIED = (
-    *("git-cgraph", "graphtool", "historytool", "VERSION", "docs/MANUAL.md", "docs/REFUSALS.md"),
-    "tables/refusals.tsv",
-    *("docs/PROGRAMS.md", "building/programs.awk", "building/completions.awk"),
-    *("shell/answers.sh", "shell/usage.sh", "shell/repository.sh", "shell/anew.sh", "shell/cures.sh", "tables/commands"),
-    *("shell/json.sh", "shell/progress.sh", "shell/objects.sh", "shell/show.sh", "shell/locks.sh", "shell/write.sh"),
-    *("shell/guard.sh", "shell/question.sh"),
-    "shell/new_commits.awk",
-    *("shell/json.awk", "tables/fields", "shell/fields.awk", "shell/explain.awk", "shell/manual.awk", "shell/alternates.awk"),
+    *("git-cgraph", "graphtool", "historytool", "VERSION", "docs/MANUAL.md", "tables/refusals.tsv", "docs/PROGRAMS.md"),
+    *("shell/answers.sh", "shell/usage.sh", "shell/explain.awk", "tables/commands"),
     *("building/install", "building/program", "building/library", "building/package", "building/building.sh", "bindings/c/commitgraph.h"),
     *("bindings/c/commitgraph_path.h", "bindings/c/commitgraph.pc", "bindings/c/commitgraph.3", "bindings/c/commitgraph-config.cmake"),
     "bindings/c/commitgraph-config-version.cmake",
     *("crates/graphtool/src/main.rt", "crates/historytool/src/main.rt", "LICENSE-MIT", "LICENSE-APACHE"),
     "docs/DIFFERENCES.md",
 )
+BUILT = ("cgraph/target/release/git-cgraph", "cgraph/target/release/git-cgraph-texts")
+"""What cargo builds, newer than all that is copied."""
+
+
+@lru_cache(maxsize=None)
+def build():
+    """Has `git cgraph` built, if a source is newer."""
+    subprocess.run([os.path.join(TOP, "git-cgraph"), "--version"], stdout=subprocess.DEVNULL, check=True)
 
 
 class Answer(NamedTuple):
@@ -45,6 +48,11 @@ class Clone:
             with open(os.path.join(TOP, name), encoding="utf-8") as file:
                 self.put(name, file.read())
         self.put("crates.txt", "")
+        build()
+        os.makedirs(os.path.join(self.folder, os.path.dirname(BUILT[0])))
+        for name in BUILT:
+            shutil.copyfile(os.path.join(TOP, name), os.path.join(self.folder, name))
+            os.chmod(os.path.join(self.folder, name), 0o755)
         for made in ("bin", self.temporary, self.home):
             os.mkdir(os.path.join(self.folder, made))
         for tool in TOOLS + MORE_TOOLS:

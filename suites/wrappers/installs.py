@@ -6,7 +6,7 @@ import subprocess
 import tempfile
 
 import version
-from wrappers.clone import PROGRAMS, TOP, Clone, exactly, run
+from wrappers.clone import BUILT, PROGRAMS, TOP, Clone, exactly, run
 from wrappers.questions import make_repository
 from wrappers.table import commands, usage
 from wrappers.tools import read, usage_of
@@ -20,14 +20,8 @@ INSTALLED = {
     *("share/bash-completion/completions/git-cgraph", "lib/git-cgraph/installed", "lib/git-cgraph/VERSION"),
     *("lib/git-cgraph/git-cgraph", "lib/git-cgraph/graphtool", "lib/git-cgraph/historytool"),
     *("lib/git-cgraph/programs/graphtool", "lib/git-cgraph/programs/historytool"),
-    *("lib/git-cgraph/docs/MANUAL.md", "lib/git-cgraph/tables/refusals.tsv"),
+    *("lib/git-cgraph/tables/refusals.tsv", "lib/git-cgraph/shell/explain.awk"),
     *("lib/git-cgraph/shell/answers.sh", "lib/git-cgraph/shell/usage.sh", "lib/git-cgraph/tables/commands"),
-    *("lib/git-cgraph/shell/explain.awk", "lib/git-cgraph/shell/manual.awk", "lib/git-cgraph/shell/alternates.awk"),
-    *("lib/git-cgraph/shell/repository.sh", "lib/git-cgraph/shell/anew.sh", "lib/git-cgraph/shell/cures.sh"),
-    *("lib/git-cgraph/shell/progress.sh", "lib/git-cgraph/shell/objects.sh", "lib/git-cgraph/shell/show.sh"),
-    *("lib/git-cgraph/shell/locks.sh", "lib/git-cgraph/shell/write.sh", "lib/git-cgraph/shell/new_commits.awk"),
-    *("lib/git-cgraph/shell/guard.sh", "lib/git-cgraph/shell/question.sh"),
-    *("lib/git-cgraph/shell/json.sh", "lib/git-cgraph/shell/json.awk", "lib/git-cgraph/tables/fields", "lib/git-cgraph/shell/fields.awk"),
     *("share/doc/git-cgraph/LICENSE-MIT", "share/doc/git-cgraph/LICENSE-APACHE", "share/doc/git-cgraph/DIFFERENCES.md"),
     "share/doc/git-cgraph/REFUSALS.md",
 }
@@ -323,8 +317,8 @@ def check_completion(results, clone, repository):
         print("left out, since there is no completion of Git's for bash: that of git cgraph")
         return
     ours = os.path.join(clone.folder, "completion")
-    made = 'awk -v shell=bash -f building/completions.awk tables/commands docs/MANUAL.md >"$1"'
-    subprocess.run(["sh", "-c", made, "sh", ours], cwd=TOP, check=True)
+    with open(ours, "wb") as file:
+        subprocess.run([os.path.join(TOP, BUILT[1]), "completion", "bash"], stdout=file, check=True)
     for words, offered in {
         ("ver",): {"verify"},
         ("",): {command.word for command in commands() if command.by_git},

@@ -1,7 +1,6 @@
 """Checks `git cgraph --json`: each answer is read by Python's own reader, and its values are those of the plain answer.
 
-The table tables/fields is read here by another way than shell/fields.awk goes, so that `suites/real_data` compares any
-answer. What it makes of some answers stands in ANSWERS, by the manual; and the manual names each field of the table.
+The table `fields` beside this file says what the lines of an answer stand for, so that `suites/real_data` compares any answer. What it makes of some answers stands in ANSWERS, by the manual; and the manual names each field of the table.
 """
 
 import json
@@ -15,8 +14,6 @@ from wrappers.clone import TOP, Clone, exactly, run
 from wrappers.questions import ODD_NAME, SHELLS, WORDS, ask, git, make_repository
 from wrappers.sentences import examples
 from wrappers.tools import read
-
-AWKS = (["mawk"], ["gawk"], ["gawk", "--posix"], ["original-awk"], ["busybox", "awk"])
 
 ANSWERS = {
     "verify": {
@@ -93,11 +90,7 @@ def check_all(results):
     with tempfile.TemporaryDirectory() as folder:
         clone = Clone(folder)
         repository = make_repository(clone, os.path.join(folder.encode(), ODD_NAME.replace(b"\xff", "\u00e9\u20ac\U0001f600\x01\t".encode())))
-        for awk in AWKS:
-            if shutil.which(awk[0]):
-                put_awk(clone, awk)
-                check_answers(results, clone, repository, " ".join(awk))
-        put_awk(clone, ["awk"])
+        check_answers(results, clone, repository)
         for shell in SHELLS:
             if shutil.which(shell[0]):
                 check_listing(results, clone, repository, shell)
@@ -119,12 +112,6 @@ def check_named(results):
         for name in re.findall(r"(?:^| )(\w+)(?=[={[])", " ".join(made)):
             lacking = [command for command in commands.split(",") if "`%s`" % name not in items.get(command, "")]
             results.check("the manual names %s of %s" % (name, commands), "not of %s" % lacking if lacking else None)
-
-
-def put_awk(clone, words):
-    """Lets the clone have this awk and no other."""
-    os.remove(os.path.join(clone.folder, "bin", "awk"))
-    clone.put("bin/awk", '#!/bin/sh\nexec %s "$@"\n' % " ".join([shutil.which(words[0]), *words[1:]]))
 
 
 def objects_in(text):
@@ -168,7 +155,7 @@ def fields_of(command, text):
 
 
 def made_of(command, words):
-    """What the table tables/fields makes of a line of a command."""
+    """What the table `fields` makes of a line of a command."""
     for commands, *pattern, _, made in ROWS:
         if command in commands.split(",") and len(pattern) == len(words) and all(map(fits, pattern, words)):
             for part in made:
@@ -189,7 +176,7 @@ def fits(pattern, word):
 
 def read_rows():
     """The rows of the table: the commands, the words of a line, a colon, and what becomes of it."""
-    with open(os.path.join(TOP, "tables", "fields"), encoding="utf-8") as file:
+    with open(os.path.join(TOP, "suites", "wrappers", "fields"), encoding="utf-8") as file:
         halves = [line.split(" : ") for line in file if not line.startswith("#")]
     return [[*line.split(), ":", made.split()] for line, made in halves]
 
@@ -292,7 +279,7 @@ def head_of(clone, repository, word, revisions=()):
     return {"command": word, "repository": folder, "commit_graph": path, **({"ids": ids} if ids else {})}
 
 
-def check_answers(results, clone, repository, awk):
+def check_answers(results, clone, repository):
     """Each answer of each command but `list` and `show`."""
     for word, texts in ANSWERS.items():
         program, revisions = WORDS[word]
@@ -306,7 +293,7 @@ def check_answers(results, clone, repository, awk):
                 complaint = "by the table it is %r" % fields_of(word, text)
             if plain.out != text:
                 complaint = "plain it is %r" % (plain,)
-            results.check("git cgraph %s --json by %s, answered %r" % (word, awk, text), complaint)
+            results.check("git cgraph %s --json, answered %r" % (word, text), complaint)
 
 
 def put_chain(repository, texts):

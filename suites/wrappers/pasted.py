@@ -12,7 +12,7 @@ from typing import Callable, NamedTuple, Sequence
 
 import refusals
 from wrappers.clone import TOP
-from wrappers.spots import CHAIN, CHAINS, GRAPH, SPOTS, Spot, clear, damage, listing, new_clone, put, quoted, read
+from wrappers.spots import CHAIN, CHAINS, COMMITS, GRAPH, SPOTS, Spot, clear, damage, listing, new_clone, put, quoted, read
 
 NOBODY = 65534
 UNKNOWN = "if it had, put --changed-paths behind the last command"
@@ -351,9 +351,9 @@ def limited(size):
 
 
 def not_renamed(spot):
-    """A command `mv` that may not rename the new commit-graph."""
-    os.remove(os.path.join(spot.clone.folder, "bin/mv"))
-    spot.clone.put("bin/mv", "#!/bin/sh\necho 'Permission denied' >&2\nexit 1\n")
+    """A folder that comes into the place of the new commit-graph while it is made."""
+    spot.clone.put_program("graphtool", "mkdir -p '%s'\necho 'ok commits %d longest 1'\n" % (spot.path(GRAPH).replace("'", "'\\''"), COMMITS))
+    spot.clone.put_program("historytool", "cat\necho 'ok commits %d longest 1'\n" % COMMITS)
 
 
 ALL, GIT_WRITES = SPOTS, "{git} commit-graph write --reachable"
@@ -387,14 +387,14 @@ OTHERS = (
         ("rm -f {file}", *OWN, GIT_WRITES + " --changed-paths"), NOT_OWN + "mend it", spots=ALL),
     Row("a file elsewhere, by a link, and a commit that it lacks", "advise_own", linked_before, ["is-ancestor", "{asked}", "main"],
         ("rm -f {file}", GIT_WRITES), NOT_OWN + "write it again"),
-    *(Row("a file elsewhere, by a link, to be written%s" % (" as a layer" * len(more)), "is_inside writes_by_cgraph", linked_before,
+    *(Row("a file elsewhere, by a link, to be written%s" % (" as a layer" * len(more)), "look_for_strays writes_by_cgraph", linked_before,
           ["write", *more], ("rm -f {file}", " ".join([*OWN, *more])), "which is not in this repository", spots=ALL)
       for more in ([], ["--split"])),
-    Row("a chain elsewhere, by a link, to be written", "is_inside", linked_folder(CHAINS), ["write"], ("rm -f {chains}", *OWN),
+    Row("a chain elsewhere, by a link, to be written", "look_for_strays", linked_folder(CHAINS), ["write"], ("rm -f {chains}", *OWN),
         "remove the link", spots=("plain", "odd", "bare")),
-    Row("a folder elsewhere, by a link, to be written", "is_inside unlinks", linked_folder(""), ["write"], ("rm -f {info}", *OWN),
+    Row("a folder elsewhere, by a link, to be written", "look_for_strays removed", linked_folder(""), ["write"], ("rm -f {info}", *OWN),
         "which is not in this repository", kept_alternates, ("plain", "worktree")),
-    Row("a folder elsewhere with alternates, by a link, to be written", "unlinks", linked_folder(""), ["write", "--split"],
+    Row("a folder elsewhere with alternates, by a link, to be written", "removed", linked_folder(""), ["write", "--split"],
         ("rm -f {info}", "{kept}", *OWN_LAYER), "which is not in this repository", kept_alternates, FORK),
     Row("a damaged file in a folder elsewhere, by a link", "advise_own", linked_folder("", True), ["verify"], ("rm -f {info}", *OWN),
         NOT_OWN + "mend it", kept_alternates, ("plain", "worktree")),
@@ -435,13 +435,13 @@ UNUSED = (
     Row("no commits", "is_hindered", empty, ["verify"], (GIT_WRITES,), "no branch or tag", nothing),
     Row("no commits, and a file", "is_hindered", lambda spot: (empty(spot), put(spot.path(GRAPH), b"")), ["verify"],
         (*OWN, GIT_WRITES), "no branch or tag", nothing),
-    Row("core.commitGraph, to be written", "refuse_unused", configured(nothing, "config", "core.commitGraph", "false"), ["write"],
+    Row("core.commitGraph, to be written", "look_for_use", configured(nothing, "config", "core.commitGraph", "false"), ["write"],
         ("{git} -c core.commitGraph=true cgraph write",), "all the same", spots=ALL),
-    Row("grafts, to be written", "refuse_unused", grafted(nothing), ["write"],
+    Row("grafts, to be written", "look_for_use", grafted(nothing), ["write"],
         ("{here} replace --convert-graft-file", "{git} --no-replace-objects cgraph write"), "make replacements", of_commits),
-    Row("a shallow clone, to be written", "refuse_unused", shallow(), ["write", "--split"],
+    Row("a shallow clone, to be written", "look_for_use", shallow(), ["write", "--split"],
         ("{here} fetch --unshallow", "{git} cgraph write --split"), "fetch the whole history"),
-    Row("replacements, to be written", "refuse_unused", configured(nothing, "replace", "main", "main~1"), ["write"],
+    Row("replacements, to be written", "look_for_use", configured(nothing, "replace", "main", "main~1"), ["write"],
         ("{git} --no-replace-objects cgraph write",), "without the replacements", of_commits),
 )
 """Where Git uses no commit-graph."""
@@ -467,9 +467,9 @@ LACKING = (
         "Keep the commit-graph", graph_stays, ALL),
     Row("a commit that is gone", "advise_anew", missing(None), ["verify", "--objects"], ANEW, "so that Git removed it", spots=ALL),
     Row("a damaged commit", "diagnose_damaged", ruined, ["verify", "--objects"], ("{here} fsck",), "which objects are damaged", nothing),
-    Row("a commit of a partial clone", "diagnose_missing", partial_clone, ["verify", "--objects"], ("{here} cat-file -e {commit}",),
+    Row("a commit of a partial clone", "is_past_the_end", partial_clone, ["verify", "--objects"], ("{here} cat-file -e {commit}",),
         "let Git fetch it"),
-    Row("a name of a lost commit", "read_revisions", missing("refs/heads/later"), ["find", "later"], ("{here} fsck",),
+    Row("a name of a lost commit", "of_revisions", missing("refs/heads/later"), ["find", "later"], ("{here} fsck",),
         "which objects are missing", graph_stays, ("plain", "odd", "bare")),
 )
 """Commits that the commit-graph lacks, or that are not there."""
@@ -481,17 +481,17 @@ KEPT = (
     Row("filters that are to stay", "refuse_filters", has_filters, ["write", "--keep-filters"], (GIT_WRITES + " --changed-paths",),
         "which keeps them", spots=ALL),
     Row("a damaged layer, to write on", "write_one_file writes_own", damaged_chain(), ["write", "--split"], OWN, "as one file", spots=ALL),
-    Row("a folder that is none of objects", "is_object_folder", nothing, ["write", "--object-dir=."], OWN, "to this repository's own"),
+    Row("a folder that is none of objects", "look_for_folder", nothing, ["write", "--object-dir=."], OWN, "to this repository's own"),
     Row("a lock", "refuse_locked", locked, ["write"], ("rm -f {lock}",), "wait for whoever writes it", is_free, ALL),
-    Row("a folder in the way", "refuse_folder_of", in_the_way("folder"), ["write"], ("rm -rf {file}",), "remove the folder", is_free),
-    Row("a link to a folder in the way", "refuse_folder_of", in_the_way("link"), ["write"], ("rm -f {file}",), "remove the link", is_free),
+    Row("a folder in the way", "refuse_folder", in_the_way("folder"), ["write"], ("rm -rf {file}",), "remove the folder", is_free),
+    Row("a link to a folder in the way", "refuse_folder", in_the_way("link"), ["write"], ("rm -f {file}",), "remove the link", is_free),
     Row("a program that cannot write", "refuse_full", failing, ["write"], ("df {info}",), "", nothing),
-    Row("a folder for files of a moment that takes nothing", "give_up_scratch", limited(0), ["verify", "--json"], ("df {temporary}",),
+    Row("a folder for files of a moment that takes nothing", "from", limited(0), ["verify", "--json"], ("df {temporary}",),
         "no file of a moment can be made", nothing),
     Row("a folder for files of a moment that takes little", "refuse_scratch", limited(100), ["show"], ("df {temporary}",),
         "it was to stand in the folder", nothing),
     Row("a file that may not be renamed", "refuse_placing", not_renamed, ["write"], ("df {info}", "ls -ld {info}"),
-        "could not take its place: Permission denied", nothing),
+        "could not take its place: Is a directory", nothing),
     Row("a folder that may not be written", "refuse_making", closed(".", 0o555), ["write"], ("ls -ld {info}",), "may write there", nothing),
     *(Row(" ".join(["a folder that may not be entered,", *words]), "diagnose_opening", closed(".", 0o600), words, ("ls -ld {info}",),
           "may enter the folder", nothing) for words in (["verify"], ["verify", "--if-exists"])),
@@ -502,11 +502,12 @@ KEPT = (
 """What keeps `git cgraph write` from writing, and what may not be read."""
 
 ROWS = DAMAGED + OTHERS + UNUSED + LACKING + KEPT
-CALLERS = {"give_up", "fail", "write_object", "covers"}
+CALLERS = {"finish", "take_halt", "unwritten", "failed", "advise_without", "find_obstacle", "name_closed", "advise_own", "git_with", "writes_by"}
 """Functions that print the commands of others, or none."""
 
-SOURCES = ("git-cgraph", *("shell/%s.sh" % name for name in ("anew", "cures", "locks", "objects", "progress", "repository", "show", "write")))
-PRINTS = re.compile(r"""cure=(?!'')|["'+}] {4}(rm|ls|df|%s|\$)""")
+SOURCES = tuple("cgraph/src/%s.rs" % name for name in ("answers", "cures", "diagnosis", "lost", "show", "target", "write", "write/making", "write/placing"))
+FUNCTION = re.compile(r" *(?:pub )?fn (\w+)")
+PRINTS = re.compile(r"""known\.cure(?: = |\.push|\.extend)|let (?:mut )?cure = |vec!\[format!|format!\(\s*"(?:rm|ls|df|mkdir|\{git\}) """)
 READS = {"git rev-parse NAME", "git cat-file --batch", "git fsck", "git rev-list --all", "git commit-graph verify"}
 NO_COMMANDS = {"git --no-replace-objects", "git replace", "git commit-graph write"}
 """Words of Git in tables/refusals.tsv that change nothing, and those that are named and not told to be run."""
@@ -542,10 +543,10 @@ def check_places(results):
         function = ""
         with open(os.path.join(TOP, source), encoding="utf-8") as file:
             for text in file:
-                begun = re.match(r"(\w+)\(\) \{", text)
+                begun = FUNCTION.match(text)
                 function = begun.group(1) if begun else function
                 there.add(function)
-                if PRINTS.search(text) and not text.lstrip().startswith("#"):
+                if PRINTS.search(text) and not text.lstrip().startswith("//"):
                     found.add(function)
     tried = {place for row in ROWS for place in row.places.split()}
     wrong = sorted(found - CALLERS - tried) + sorted(tried - there)

@@ -12,8 +12,8 @@ import tempfile
 import time
 
 import refusals
-from wrappers.clone import TOP, Clone, exactly, run
-from wrappers.json_answers import AWKS, objects_in
+from wrappers.clone import Clone, exactly, run
+from wrappers.json_answers import objects_in
 from wrappers.questions import SHELLS, ask, git, make_repository, said
 
 PROGRAM = r"""
@@ -67,22 +67,6 @@ REFUSED = {
 """What `historytool write` may answer of two commits, and the status of `git cgraph` then."""
 
 SHARED = ("umask", "group", "true", "all", "0640", "0660")
-
-
-NEWEST = {
-    ("", "", "a"): (0, ""),
-    ("a", "a", ""): (0, "a"),
-    ("a", "a b", "a b"): (0, ""),
-    ("b", "", "a b"): (0, ""),
-    ("c", "c a", "a b"): (0, "c"),
-    ("d", "d c,c a", "a b"): (0, "d c"),
-    ("d e", "d c,c a b", "a b e"): (0, "d c"),
-    ("d", "d c", "a b"): (3, "d"),
-    ("d e", "d c,c a", "a b"): (3, "d c"),
-    ("d", "d a c", "a b"): (3, "d"),
-    ("d", "d b,b c", "a b"): (0, "d"),
-}
-"""Tips, the newest commits with their parents, and what a commit-graph has; and the status of new_commits.awk and what it writes."""
 
 
 class Written:
@@ -147,8 +131,6 @@ def ids_in(content):
 def check_all(results):
     """The checks, in one repository."""
     with tempfile.TemporaryDirectory() as folder:
-        check_newest(results, folder)
-        check_given_back(results)
         written = Written(folder)
         for shell in SHELLS[1:]:
             if shutil.which(shell[0]) and "--posix" not in shell:
@@ -227,24 +209,6 @@ def split(sizes, number):
     return [*sizes, number]
 
 
-def check_newest(results, folder):
-    """Which of the newest commits are new, and whether these are all, by each awk."""
-    program = os.path.join(TOP, "shell", "new_commits.awk")
-    for awk in filter(lambda awk: shutil.which(awk[0]), AWKS):
-        wrong = []
-        for texts, (status, out) in NEWEST.items():
-            words = []
-            for part, text in zip(("tips", "newest", "stored"), texts):
-                path = os.path.join(folder, part)
-                with open(path, "w", encoding="ascii") as file:
-                    file.write("".join(line + "\n" for line in (text.split(",") if part == "newest" else text.split()) if line))
-                words += ["part=" + part, path]
-            answer = run([*awk, "-f", program, *words], {"PATH": os.environ["PATH"]})
-            if answer != (status, "".join(line + "\n" for line in out.split()), ""):
-                wrong.append((texts, answer))
-        results.check("the newest commits, by %s" % " ".join(awk), "%r" % wrong[0] if wrong else None)
-
-
 def check_told(results, written):
     """What is told with `--quiet` and with `--json`."""
     ids = written.ids()
@@ -282,25 +246,6 @@ def check_locked(results, written):
             stands(results, written, title, before)
         for path in locks:
             os.remove(path)
-
-
-def check_given_back(results):
-    """A lock that is given back as it is seen is named, and one that is given back as it is taken is taken."""
-    calls = """. ./shell/locks.sh
-single=/a/file chain=/a/folder/chain looks=0 tries=0
-quoted() { printf '%s' "$1"; }
-fail() { printf '%s\\n' "$@"; return 1; }
-is_own() { :; }
-is_there() { looks=$((looks + 1)); [ $looks -eq SEEN ]; }
-take_lock() { tries=$((tries + 1)); [ $tries -gt 1 ]; }
-take_locks && echo taken
-"""
-    for shell in SHELLS[1:]:
-        if shutil.which(shell[0]):
-            for when, seen, words in (("seen", "1", ["the lock is /a/file.lock", "    rm -f /a/file.lock"]), ("taken", "0", ["taken"])):
-                answer = run([*shell, "-c", calls.replace("SEEN", seen)], {}, cwd=TOP)
-                right = set(words) <= set(answer.out.split("\n"))
-                results.check("%s: a lock is given back as it is %s" % (" ".join(shell), when), None if right else "it is %r" % (answer,))
 
 
 def check_unused(results, written):

@@ -94,7 +94,7 @@ def check_case(results, killed, title, before, options):
         shutil.copytree(repository.info_path(), tree)
         ended, calls = killed.run(options, 0)
         new, files = killed.stands(), killed.files()
-        right = ended.returncode == 0 and calls > 5 and new != old and repository.git_verdict() == (0, False)
+        right = ended.returncode == 0 and calls > 4 and new != old and repository.git_verdict() == (0, False)
         results.check("%s, not killed" % title, None if right else "it is %r after %d calls" % (ended, calls))
         wrong, states = [], {}
         for at in range(1, calls + 1):
