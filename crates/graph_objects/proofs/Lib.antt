@@ -1,17 +1,10 @@
 pub mod ParentLemmas
 pub mod CommitLemmas
-pub mod LineLemmas
-pub mod EntryLemmas
 pub mod TakingLemmas
 pub mod StreamLemmas
-pub mod CommitLineLemmas
-pub mod OnceLemmas
 pub mod DigestLemmas
 pub mod MatchLemmas
 pub mod RightStreamLemmas
 pub mod RefusedOnceLemmas
 pub mod CommitWalkLemmas
 pub mod WrittenLemmas
-pub mod ObjectLemmas
-pub mod BufferLemmas
-pub mod OwnLineLemmas

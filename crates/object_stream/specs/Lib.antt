@@ -1,0 +1,4 @@
+pub mod BatchEntry
+pub mod NextEntry
+pub mod Reading
+pub mod Taking
