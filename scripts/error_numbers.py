@@ -23,7 +23,7 @@ ROWS = {
     "parent": re.compile(r"^\| `!(\d+)` ", re.MULTILINE),
     "id": re.compile(r"^\| `refused id (\d+)` ", re.MULTILINE),
     "read": re.compile(r"^\| `refused read (\d+)` ", re.MULTILINE),
-    "entry": re.compile(r"^\| `refused objects ([1-5]) position P` ", re.MULTILINE),
+    "entry": re.compile(r"^\| `refused objects ([1-6]) position P` ", re.MULTILINE),
     "mismatch": re.compile(r"^\| `refused objects ([6-9]|10) position P(?: index J)?` ", re.MULTILINE),
 }
 """The rows of the document that tell the errors of each kind."""

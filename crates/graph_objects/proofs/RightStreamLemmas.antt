@@ -41,7 +41,8 @@ module _ (layers : List Layer) (p : ℕ) (bytes contents next : List ℕ)
       let a = contents_there layers p contents (matched_contents layers p contents matches) in
       let kind = a.0.kind in
       let here : IsEntryError kind (Some (graph_id_at layers p)) bytes e = rw a.2 at refused in
-      entry_not_refused kind (Some (graph_id_at layers p)) bytes contents next (rw a.3 at entry) (ap encode_lower (sym a.3)) e here
+      entry_not_refused kind (Some (graph_id_at layers p)) bytes contents next (rw a.3 at entry)
+      (ap encode_lower (sym a.3)) e here
 
   pub not_mismatched : (m : Difference) → ¬ (IsMismatchIn layers p bytes m)
   not_mismatched m refused =

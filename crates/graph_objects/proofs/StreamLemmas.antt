@@ -8,7 +8,7 @@ use Rattle.std.proofs.lemmas.List.{length-append, nil_from_length}
 use Rattle.graph_format.specs.Layer.{Layer}
 use Rattle.graph_format.specs.declared.Position.{Position}
 use Rattle.object_stream.specs.BatchEntry.{commit_entry, BeginsWithEntry}
-use Rattle.object_stream.specs.Taking.{BothKnown}
+use Rattle.object_stream.specs.FoundEntry.{BothKnown}
 use Rattle.graph_objects.specs.Matching.{MatchesAt}
 use Rattle.graph_objects.specs.Stream.{graph_id_at, entries_of, AllMatch, IsStreamUpTo, IsStreamOf, IsLong}
 use Rattle.graph_objects.specs.Stream.{MayRefuseStream, HasLong}

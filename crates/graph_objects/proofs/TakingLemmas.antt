@@ -7,7 +7,7 @@ use Rattle.graph_format.specs.declared.Position.{Position}
 use Rattle.gix_commitgraph.specs.Graph.{graph_commits, graph_ids}
 use Rattle.object_stream.specs.BatchEntry.{BeginsWithEntry}
 use Rattle.object_stream.specs.NextEntry.{BeginsWithLongEntry, IsEntryError, MayStop}
-use Rattle.object_stream.specs.Taking.{BothKnown}
+use Rattle.object_stream.specs.FoundEntry.{BothKnown}
 use Rattle.object_stream.specs.declared.error.ReadFailure.TheVariants as failure
 use Rattle.object_stream.specs.declared.error.StreamError.{StreamError}
 use Rattle.object_stream.specs.declared.error.StreamError.TheVariants as stream
@@ -23,7 +23,8 @@ use Rattle.graph_objects.proofs.DigestLemmas.{id_there}
 -- the stream gives no entry
 pub entry_stop : (layers : List Layer) (pos : Position) (kind : Kind) (id : List ℕ) (layer : Layer) (place : ℕ)
     (before : Option (List ℕ)) (error : StreamError) → slice_get (graph_commits layers) pos.0 ≡ Some (layer, place)
-    → layer.kind ≡ kind → slice_get (graph_ids layers) pos.0 ≡ Some id → IfSome before (λ bytes. MayStop kind (Some id) bytes error)
+    → layer.kind ≡ kind → slice_get (graph_ids layers) pos.0 ≡ Some id
+    → IfSome before (λ bytes. MayStop kind (Some id) bytes error)
     → IfSome before (λ bytes. MayRefuseEntry layers pos bytes (stream_error_at pos error))
 entry_stop layers pos kind id layer place None error here same there stop = tt
 entry_stop layers pos kind id layer place (Some bytes) (stream.Entry e) here same there stop =

@@ -3,7 +3,7 @@ use Rattle.std.specs.Prelude.{◌≡◌, ℕ, List, Option, ⊤}
 use Rattle.graph_format.specs.Layer.{Layer}
 use Rattle.graph_format.specs.declared.Position.{Position}
 use Rattle.object_stream.specs.BatchEntry.{BeginsWithEntry}
-use Rattle.object_stream.specs.Taking.{BothKnown}
+use Rattle.object_stream.specs.FoundEntry.{BothKnown}
 use Rattle.object_stream.specs.declared.error.ReadFailure.{ReadFailure}
 use Rattle.object_stream.specs.declared.error.ReadFailure.TheVariants as failure
 use Rattle.object_stream.specs.declared.error.StreamError.{StreamError}

@@ -10,9 +10,9 @@ use Rattle.std.proofs.lemmas.List.{length-append, length-drop, length-take-le, t
 use Rattle.hex.specs.Hex.{encode_lower}
 use Rattle.gix_hash_core.specs.Kind.{id_len}
 use Rattle.gix_hash_core.specs.declared.kind.Kind.{Kind}
-use Rattle.object_stream.specs.BatchEntry.{line_of_commit, commit_entry, IsLine, IsLineEnd, IsObjectLine, BeginsWithEntry}
+use Rattle.object_stream.specs.BatchEntry.{line_of_commit, IsLine, IsLineEnd, IsObjectLine, BeginsWithEntry}
 use Rattle.object_stream.specs.NextEntry.{BeginsWithObject}
-use Rattle.object_stream.specs.Taking.{BothKnown, FindsCommit}
+use Rattle.object_stream.specs.FoundEntry.{BothKnown, FindsCommit}
 use Rattle.object_stream.specs.declared.heading.Heading.{Heading}
 use Rattle.object_stream.specs.declared.heading.Heading.TheVariants as heading
 

@@ -7,7 +7,7 @@ use Rattle.std.proofs.lemmas.List.{drop-set-lt, length-append, length-take-le, t
 use Rattle.gix_hash_core.specs.Kind.{id_len}
 use Rattle.gix_hash_core.specs.declared.kind.Kind.{Kind}
 use Rattle.commit_objects.specs.Object.{object_of}
-use Rattle.object_stream.specs.Taking.{FindsCommit}
+use Rattle.object_stream.specs.FoundEntry.{FindsCommit}
 use Rattle.object_stream.proofs.EntryLemmas.{behind_line, line_length}
 
 -- digits, a space and more, cut behind the space

@@ -1,10 +1,10 @@
 -- Bytes have one reading: one line, one entry, one reason why there is none.
-use Rattle.std.proofs.Common.{◌≡◌, ◌≢◌, ℕ, zero, suc, ◌*◌, ◌/◌, ◌^◌, ◌<◌, ◌≤◌, ◌⊎◌, List, [], ◌∷◌, ◌++◌, length, take, get_or}
+use Rattle.std.proofs.Common.{◌≡◌, ◌≢◌, ℕ, zero, suc, ◌*◌, ◌/◌, ◌<◌, ◌≤◌, ◌⊎◌, List, [], ◌∷◌, ◌++◌, length, take, get_or}
 use Rattle.std.proofs.Common.{refl, sym, ap, ◌∙◌, arith, inl, inr, subst, true, false, ⊎_elim, append_assoc, decimal}
-use Rattle.std.specs.Prelude.{All, Option, Some, None, codes, nat_lt, if◌then◌else◌}
+use Rattle.std.specs.Prelude.{All, Option, None, codes, nat_lt, if◌then◌else◌}
 use Rattle.std.specs.Int.{w32, byte_at, bytes_high_first, to_be_bytes}
 use Rattle.std.specs.Prelude.{slice_index}
-use Rattle.std.proofs.lemmas.Bool.{cases_lt, lt-ltb, le-ltb}
+use Rattle.std.proofs.lemmas.Bool.{lt-ltb, le-ltb}
 use Rattle.std.proofs.lemmas.Fmt.{decimal_injective}
 use Rattle.std.proofs.lemmas.List.{append_cancel_left, length-append, length-take, get_or-take, get_or_at, take_all}
 use Rattle.std.proofs.lemmas.List.Elements.{All-head, All-tail, All-get_or, All-nil, All-cons, All-append}
@@ -22,7 +22,7 @@ use Rattle.gix_hash_core.proofs.DigestLemmas.{digest_is_sized}
 use Rattle.commit_objects.specs.Object.{object_id_of, object_of}
 use Rattle.object_stream.specs.BatchEntry.{line_of_commit, longest_line, HasNoFeed, IsLine, IsTail, IsObjectLine, BeginsWithEntry}
 use Rattle.object_stream.specs.NextEntry.{BeginsWithHead, IsEntryError, IsExpected}
-use Rattle.object_stream.specs.Taking.{IsOtherLine}
+use Rattle.object_stream.specs.FoundEntry.{IsOtherLine}
 use Rattle.object_stream.specs.declared.error.EntryError.{EntryError}
 use Rattle.object_stream.specs.declared.error.EntryError.TheVariants as error
 use Rattle.object_stream.specs.declared.heading.Heading.{Heading}

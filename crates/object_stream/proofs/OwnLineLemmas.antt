@@ -12,7 +12,7 @@ use Rattle.gix_hash_core.specs.declared.kind.Kind.{Kind}
 use Rattle.gix_hash_core.specs.declared.kind.Kind.TheVariants.{Sha1, Sha256}
 use Rattle.object_stream.specs.BatchEntry.{is_lower_digit}
 use Rattle.object_stream.specs.NextEntry.{BeginsWithObject}
-use Rattle.object_stream.specs.Taking.{FindsCommit}
+use Rattle.object_stream.specs.FoundEntry.{FindsCommit}
 use Rattle.object_stream.specs.declared.heading.Heading.TheVariants as told
 use Rattle.object_stream.proofs.CommitLineLemmas.{length-own, own-no_feed}
 use Rattle.object_stream.proofs.LineLemmas.{put_together}

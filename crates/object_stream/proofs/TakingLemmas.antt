@@ -13,7 +13,7 @@ use Rattle.commit_objects.specs.Object.{object_id_of}
 use Rattle.object_stream.specs.BatchEntry.{longest_line, HasNoFeed, IsLine, IsLineEnd}
 use Rattle.object_stream.specs.NextEntry.{BeginsWithHead, IsEntryError, IsExpected, MayStop}
 use Rattle.object_stream.specs.Reading.{IsFillError}
-use Rattle.object_stream.specs.Taking.{FindsCommit, IsOtherLine}
+use Rattle.object_stream.specs.FoundEntry.{FindsCommit, IsOtherLine}
 use Rattle.object_stream.specs.declared.error.EntryError.{EntryError}
 use Rattle.object_stream.specs.declared.error.EntryError.TheVariants as error
 use Rattle.object_stream.specs.declared.error.ReadFailure.{ReadFailure}

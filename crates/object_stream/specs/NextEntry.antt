@@ -85,4 +85,4 @@ pub record BeginsWithContents (kind : Kind) (expected : Option (List ℕ)) (id :
   pub within : size < length bytes
   pub feed : slice_index bytes size ≡ 10
   pub own : id ≡ object_id_of kind (take size bytes)
-  pub wanted : IfSome expected (λ other. id ≡ other)
+  pub is_expected : IfSome expected (λ other. id ≡ other)

@@ -1,6 +1,6 @@
 //! Reading the next entry.
 
-ghost use Rattle.std.specs.Prelude.{◌≡◌, ◌<◌, ◌≤◌, ◌+◌, ◌*◌, ◌++◌, ◌∷◌, [], IfErr, IfOk, IfSome, OnOk};
+ghost use Rattle.std.specs.Prelude.{◌≡◌, ◌≤◌, ◌+◌, ◌*◌, ◌++◌, ◌∷◌, [], IfErr, IfOk, IfSome, OnOk};
 ghost use Rattle.std.specs.Prelude.{length, drop, nat_lt, take, if◌then◌else◌};
 ghost use Rattle.std.specs.Io.KnownBytes.{Consumes, Keeps, prepend_known};
 ghost use Rattle.hex.specs.Hex.{IsBytes};
@@ -8,7 +8,7 @@ ghost use Rattle.gix_hash_core.specs.Kind.{id_len};
 ghost use Rattle.commit_objects.specs.Object.{object_id_of};
 ghost use Rattle.object_stream.specs.BatchEntry.{line_of_commit, longest_line};
 ghost use Rattle.object_stream.specs.NextEntry.{BeginsWithContents, IsExpected, MayStop};
-ghost use Rattle.object_stream.specs.Taking.{FindsCommit};
+ghost use Rattle.object_stream.specs.FoundEntry.{FindsCommit};
 
 use crate::buffer::Buffer;
 use crate::error::{EntryError, StreamError};

@@ -1,6 +1,5 @@
 //! Why no entry was read.
 
-use std::alloc::AllocError;
 use thiserror::Error;
 
 /// Why what stands in a stream is not the entry of a commit, the expected one where one is: the
@@ -37,17 +36,6 @@ pub enum ReadFailure {
     /// An allocation failed.
     #[error("OutOfMemory")]
     OutOfMemory,
-}
-
-impl From<AllocError> for ReadFailure {
-    ghost use Rattle.std.specs.Prelude.{◌≡◌};
-    ghost use Rattle.object_stream.specs.declared.error.ReadFailure.TheVariants.{OutOfMemory};
-
-    ghost from_gives = { λ _ failure. failure ≡ OutOfMemory };
-
-    fn from(_: AllocError) -> ReadFailure {
-        ReadFailure::OutOfMemory
-    }
 }
 
 /// Why no entry was read from a stream. Its text is the name of the variant alone.

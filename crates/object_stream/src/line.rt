@@ -8,7 +8,7 @@ ghost use Rattle.gix_hash_core.specs.Kind.{id_len};
 ghost use Rattle.object_stream.specs.BatchEntry.{HasNoFeed, IsLineEnd, longest_line};
 ghost use Rattle.object_stream.specs.BatchEntry.{IsObjectLine, IsTail, is_lower_digit};
 ghost use Rattle.object_stream.specs.NextEntry.{IsExpected};
-ghost use Rattle.object_stream.specs.Taking.{IsOtherLine};
+ghost use Rattle.object_stream.specs.FoundEntry.{IsOtherLine};
 ghost use Rattle.object_stream.specs.declared.heading.Heading as heading;
 ghost use Rattle.object_stream.specs.declared.heading.Heading.TheVariants as told;
 

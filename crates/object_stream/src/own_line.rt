@@ -7,7 +7,7 @@ ghost use Rattle.hex.specs.Hex.{IsBytes};
 ghost use Rattle.gix_hash_core.specs.Kind.{id_len};
 ghost use Rattle.object_stream.specs.BatchEntry.{is_lower_digit};
 ghost use Rattle.object_stream.specs.NextEntry.{IsExpected};
-ghost use Rattle.object_stream.specs.Taking.{FindsCommit};
+ghost use Rattle.object_stream.specs.FoundEntry.{FindsCommit};
 
 use crate::line::are_digits;
 use commit_objects::spells;

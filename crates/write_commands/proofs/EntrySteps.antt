@@ -9,7 +9,7 @@ use Rattle.gix_hash_core.specs.declared.kind.Kind.{Kind}
 use Rattle.commit_objects.specs.Object.{object_id_of}
 use Rattle.object_stream.specs.BatchEntry.{BeginsWithEntry}
 use Rattle.object_stream.specs.NextEntry.{MayStop}
-use Rattle.object_stream.specs.Taking.{BothKnown}
+use Rattle.object_stream.specs.FoundEntry.{BothKnown}
 use Rattle.object_stream.specs.declared.error.ReadFailure.{ReadFailure}
 use Rattle.object_stream.specs.declared.error.ReadFailure.TheVariants as failure
 use Rattle.object_stream.specs.declared.error.StreamError.{StreamError}
@@ -80,5 +80,6 @@ pub commit_taken : (kind : Kind) (commit : NewCommit) (contents : List ℕ) (bef
     → IsReadCommit kind contents commit → TakesCommit kind commit before now
 commit_taken kind commit contents before now passed says =
     both_weaker (λ bytes next. BeginsWithEntry (object_id_of kind contents) bytes contents next)
-    (λ bytes next. (all : List ℕ) × BeginsWithEntry (object_id_of kind all) bytes all next × IsReadCommit kind all commit) before now
+    (λ bytes next. (all : List ℕ) × BeginsWithEntry (object_id_of kind all) bytes all next × IsReadCommit kind all commit)
+    before now
     (λ bytes next entry. (contents, entry, says)) passed

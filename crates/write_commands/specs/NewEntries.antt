@@ -3,7 +3,7 @@
 use Rattle.std.specs.Prelude.{◌≡◌, ℕ, List, Option, ⊤}
 use Rattle.gix_hash_core.specs.declared.kind.Kind.{Kind}
 use Rattle.object_stream.specs.BatchEntry.{BeginsWithEntry}
-use Rattle.object_stream.specs.Taking.{BothKnown}
+use Rattle.object_stream.specs.FoundEntry.{BothKnown}
 use Rattle.object_stream.specs.declared.error.ReadFailure.{ReadFailure}
 use Rattle.object_stream.specs.declared.error.ReadFailure.TheVariants as failure
 use Rattle.object_stream.specs.declared.error.StreamError.{StreamError}

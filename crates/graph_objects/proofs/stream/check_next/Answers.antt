@@ -39,7 +39,7 @@ returns-in-Ok-matches_commit-clause-ok g c =
     let before = prepend_known c.args.buffer.now (g.R.Read.remaining c.args.reader.now) in
     let contents = c.in-Ok.ensures.contents in
     let there : slice_get (graph_ids layers) p ≡ Some entry.id =
-    c.id_at.ensures ∙ ap (λ i. Some i) (sym (contents.wanted ∙ c.to_owned-id.ensures)) in
+    c.id_at.ensures ∙ ap (λ i. Some i) (sym (contents.is_expected ∙ c.to_owned-id.ensures)) in
     let fits : entry.size < 2 ^ 64 = omega arith in
     let matches : MatchesAt layers p (take entry.size view) =
     rw c.commit_at-commit.ensures (rw c.bytes.ensures at c.in-Ok-matches_commit.ensures) in
@@ -60,7 +60,7 @@ returns-in-Err-matches_commit-clause-err g c =
     let before = prepend_known c.args.buffer.now (g.R.Read.remaining c.args.reader.now) in
     let contents = c.in-Ok.ensures.contents in
     let there : slice_get (graph_ids layers) p ≡ Some entry.id =
-    c.id_at.ensures ∙ ap (λ i. Some i) (sym (contents.wanted ∙ c.to_owned-id.ensures)) in
+    c.id_at.ensures ∙ ap (λ i. Some i) (sym (contents.is_expected ∙ c.to_owned-id.ensures)) in
     let same = of_layer (λ (l : Layer). l.kind ≡ kind) layers p (commit_pos commit) (commit_layer commit)
     c.object_hash-kind.ensures.kind c.commit_at-commit.ensures in
     let fits : entry.size < 2 ^ 64 = omega arith in

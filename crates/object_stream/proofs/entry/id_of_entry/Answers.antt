@@ -1,5 +1,4 @@
-use Rattle.std.proofs.Common.{◌≡◌, ◌+◌, ◌-◌, ◌*◌, List, ℕ, arith, length, take, drop, ap, ◌∙◌}
-use Rattle.std.specs.Prelude.{slice_set}
+use Rattle.std.proofs.Common.{◌+◌, ◌-◌, ◌*◌, List, ℕ, take, drop, ap, ◌∙◌}
 use Rattle.gix_hash_core.specs.Digest.{digest_of}
 use Rattle.object_stream.proofs.ObjectLemmas.{object_there}
 use Rattle.object_stream.proofs.entry.id_of_entry.Goals as goal

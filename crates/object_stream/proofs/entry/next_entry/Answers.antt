@@ -1,4 +1,4 @@
-use Rattle.std.proofs.Common.{◌≡◌, ◌≢◌, ℕ, ◌+◌, ◌*◌, ◌<◌, List, ◌∷◌, ◌++◌, [], length, take, drop, get_or, arith, sym, ap, ◌∙◌, subst}
+use Rattle.std.proofs.Common.{◌≡◌, ℕ, ◌+◌, ◌*◌, ◌<◌, List, ◌∷◌, ◌++◌, [], length, take, drop, arith, sym, ap, ◌∙◌, subst}
 use Rattle.std.proofs.KnownBytes.{Keeps-trans}
 use Rattle.std.proofs.lemmas.List.{get_or-drop, length-drop}
 use Rattle.std.proofs.lemmas.Result.{err_from_is_err_and}
@@ -109,6 +109,6 @@ returns-clause-contents g c =
       within = omega (arith, length-drop (line + 1) view, c.in_ok-fill.ensures.enough.0 c.if-not-branch.false);
       feed = rw (c.bytes.ensures, sym (get_or-drop (line + 1) view size 0)) at c.if-bytes-line-ne10.false;
       own = c.id_of_entry-id.ensures.id;
-      wanted = rw c.as_oid.ensures at (own_expected c.args.expected (take (2 * c.len_in_bytes.result) bytes)
+      is_expected = rw c.as_oid.ensures at (own_expected c.args.expected (take (2 * c.len_in_bytes.result) bytes)
           c.as_oid.result.bytes.now wanted c.in_ok-line.ensures.bytes (c.spells.ensures.id c.if-not-spells.false));
     })

@@ -1,11 +1,11 @@
-use Rattle.std.proofs.Common.{◌≡◌, ◌∙◌, arith, length, subst, sym}
+use Rattle.std.proofs.Common.{◌≡◌, length, subst, sym}
 use Rattle.std.specs.Prelude.{IfSome, nat_lt, if◌then◌else◌}
 use Rattle.std.specs.Io.KnownBytes.{prepend_known}
 use Rattle.object_stream.specs.BatchEntry.{longest_line}
 use Rattle.object_stream.specs.NextEntry.{MayStop}
 use Rattle.object_stream.specs.declared.error.EntryError.TheVariants as error
 use Rattle.object_stream.specs.declared.error.StreamError.TheVariants.{Entry}
-use Rattle.object_stream.proofs.EntryLemmas.{found_commit, same_front}
+use Rattle.object_stream.proofs.EntryLemmas.{found_commit}
 use Rattle.object_stream.proofs.TakingLemmas.{no_line_stop, other_line_stop}
 use Rattle.object_stream.proofs.entry.next_line.Goals as goal
 

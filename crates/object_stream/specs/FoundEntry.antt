@@ -1,4 +1,4 @@
--- How an entry is found in the bytes that a buffer and its reader have together. For private contracts, but for the first.
+-- How an entry is found in the bytes that a buffer and its reader have together. For private contracts alone.
 use Rattle.std.specs.Prelude.{◌≡◌, ◌+◌, ◌*◌, ℕ, List, Option, Some, None, length, take}
 use Rattle.gix_hash_core.specs.Kind.{id_len}
 use Rattle.gix_hash_core.specs.declared.kind.Kind.{Kind}
