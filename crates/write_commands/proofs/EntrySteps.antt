@@ -1,7 +1,7 @@
 -- Why the entry of a commit is taken from the bytes that a buffer and its reader have together, and why it is not.
 use Rattle.std.proofs.Common.{◌≡◌, ℕ, ◌+◌, ◌<◌, ◌≤◌, Bool, true, false, List, [], ◌++◌, length}
 use Rattle.std.proofs.Common.{refl, sym, ap, ◌∙◌, arith, append-nil, ⊎_elim, Option, Some, None, IsTrue}
-use Rattle.std.specs.Prelude.{◌↔◌, IfSome, nat_le, if◌then◌else◌}
+use Rattle.std.specs.Prelude.{◌↔◌, IfSome, nat_le}
 use Rattle.std.specs.Io.KnownBytes.{Keeps, IsAtEnd, prepend_known}
 use Rattle.std.proofs.lemmas.Bool.{cases_lt, le-leb}
 use Rattle.std.proofs.lemmas.List.{length-append, take-append-le}

@@ -1,11 +1,10 @@
 -- Of which kind the ids of a stream are.
-use Rattle.std.proofs.Common.{◌≡◌, ℕ, ◌*◌, ◌<◌, Bool, true, false, List, ◌++◌, length, take}
-use Rattle.std.proofs.Common.{refl, sym, ap, ◌∙◌, arith, take-append-drop, subst, None}
+use Rattle.std.proofs.Common.{◌≡◌, ℕ, ◌<◌, Bool, true, false, List, length, take}
+use Rattle.std.proofs.Common.{refl, sym, subst, None}
 use Rattle.std.proofs.lemmas.Bool.{le-leb, lt-leb}
 use Rattle.std.proofs.lemmas.List.Sums.{AllPass-from_list_all, list_all-from_AllPass}
 use Rattle.std.specs.Prelude.{nat_le}
 use Rattle.std.specs.List.{AllPass, IsSplitAt, list_all}
-use Rattle.gix_hash_core.specs.declared.kind.Kind.{Kind}
 use Rattle.gix_hash_core.specs.declared.kind.Kind.TheVariants.{Sha1, Sha256}
 use Rattle.object_stream.specs.BatchEntry.{is_lower_digit}
 use Rattle.write_commands.specs.NewStream.{kind_of_stream}

@@ -1,7 +1,6 @@
 use Rattle.std.proofs.Common.{◌≡◌, ◌+◌, ◌^◌, ◌<◌, List, ℕ, Some, slice_get, take, drop, arith, sym, ap, ◌∙◌, subst}
 use Rattle.std.specs.Prelude.{IfSome}
 use Rattle.std.specs.Io.KnownBytes.{prepend_known}
-use Rattle.gix_hash_core.specs.Oid.{oid_bytes}
 use Rattle.graph_format.specs.Layer.{Layer}
 use Rattle.graph_layer.specs.Commit.{commit_layer, commit_pos}
 use Rattle.gix_commitgraph.specs.Graph.{graph_ids}
