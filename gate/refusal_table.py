@@ -281,8 +281,9 @@ BASES = {
 }
 """What the library adds to the numbers of each kind."""
 
-WITHOUT_ROW = {"file.Chunks", "graph.OutOfMemory", "read.NotOpened"}
-"""Errors of whose number no row is: one has rows of its own kind, one is told by another line, and one never comes."""
+WITHOUT_ROW = {"file.Chunks", "graph.OutOfMemory", "read.NotOpened", "entry.OtherContents"}
+"""Errors of whose number no row is: one has rows of its own kind, one is told by another line, one never comes, and one has the number
+and the row of a mismatch."""
 
 
 def wrong_rows(texts):

@@ -9,13 +9,8 @@ ghost use Rattle.graph_encoder.specs.Written.{words_bytes};
 
 use crate::push::push_word;
 use crate::view::PlanView;
+use graph_format::parents::{NO_PARENT, TOP_BIT};
 use std::alloc::AllocError;
-
-/// The field of a missing parent.
-pub(crate) const NO_PARENT: u32 = 0x70000000;
-
-/// The bit that marks a field as the index of an extra word, and the last word of a commit's list.
-pub(crate) const TOP_BIT: u32 = 0x80000000;
 
 /// A file has fewer extra words than this.
 const EXTRA_WORDS_LIMIT: usize = 0x80000000;

@@ -8,9 +8,9 @@ ghost use Rattle.graph_encoder.specs.DateOffsets.{is_large, large_offsets, offse
 ghost use Rattle.graph_encoder.specs.DateOffsets.{offsets_of};
 ghost use Rattle.graph_encoder.specs.Written.{words_bytes, longs_bytes};
 
-use crate::edges::TOP_BIT;
 use crate::push::{push_long, push_word};
 use crate::view::PlanView;
+use graph_format::parents::TOP_BIT;
 use std::alloc::AllocError;
 
 /// An offset from this one on has no room beside a word's top bit.

@@ -8,11 +8,13 @@ ghost use Rattle.graph_encoder.specs.Plan.{IsPlan, IsPlannedCommit, AreOffsets, 
 ghost use Rattle.graph_encoder.specs.Rows.{IsRowOf};
 ghost use Rattle.graph_encoder.specs.declared.plan.PlanCommit.{PlanCommit};
 
-use crate::edges::{NO_PARENT, has_few_extra_words};
+use crate::edges::has_few_extra_words;
 use crate::filters::PlanFilters;
 use crate::row::PlanRow;
 use crate::view::PlanView;
 use gix_hash_core::{Kind, ObjectId, oid};
+use graph_format::parents::NO_PARENT;
+use graph_format::records::TIME_BITS;
 use std::alloc::{AllocError, Global};
 
 /// What one file is to hold: the commits of a layer, and the checksums of the layers below it. It
@@ -53,7 +55,7 @@ pub struct PlanCommit {
 const MAX_GENERATION: u32 = 1073741823;
 
 /// The greatest time that fits in 34 bits.
-const MAX_TIME: u64 = 17179869183;
+const MAX_TIME: u64 = (1 << TIME_BITS) - 1;
 
 /// The most bases that the header's byte can count.
 const MAX_BASES: usize = 255;

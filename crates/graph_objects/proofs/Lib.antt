@@ -1,11 +1,7 @@
 pub mod ParentLemmas
 pub mod CommitLemmas
-pub mod LineLemmas
-pub mod EntryLemmas
 pub mod TakingLemmas
 pub mod StreamLemmas
-pub mod CommitLineLemmas
-pub mod OnceLemmas
 pub mod SameCommitLemmas
 pub mod SameGraphLemmas
 pub mod DigestLemmas
@@ -14,6 +10,3 @@ pub mod RightStreamLemmas
 pub mod RefusedOnceLemmas
 pub mod CommitWalkLemmas
 pub mod WrittenLemmas
-pub mod ObjectLemmas
-pub mod BufferLemmas
-pub mod OwnLineLemmas

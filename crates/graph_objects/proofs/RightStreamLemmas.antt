@@ -1,72 +1,54 @@
 -- No refusal holds of a stream that is right.
-use Rattle.std.proofs.Common.{◌≡◌, ◌≢◌, ℕ, ◌+◌, ◌<◌, ◌≤◌, ◌⊎◌, List, [], ◌∷◌, ◌++◌, length, take, get_or, refl, sym, ap, ◌∙◌}
-use Rattle.std.proofs.Common.{arith}
-use Rattle.std.proofs.Common.{⊎_elim, append_assoc, append-nil, subst}
-use Rattle.std.proofs.lemmas.List.{length-append, get_or_at, nil_from_length}
+use Rattle.std.proofs.Common.{◌≡◌, ℕ, ◌+◌, ◌<◌, ◌≤◌, List, [], ◌∷◌, ◌++◌, length, refl, sym, ap, ◌∙◌}
+use Rattle.std.proofs.Common.{arith, append_assoc, append-nil, subst, Some}
+use Rattle.std.proofs.lemmas.List.{length-append, nil_from_length}
+use Rattle.std.proofs.lemmas.Option.{same_Some}
+use Rattle.hex.specs.Hex.{encode_lower}
 use Rattle.graph_format.specs.Layer.{Layer}
-use Rattle.graph_objects.specs.BatchEntry.{line_of_commit, commit_entry, longest_line, HasNoFeed, IsLine, IsOtherLine}
-use Rattle.graph_objects.specs.BatchEntry.{IsCommitHead, BeginsWithEntry}
-use Rattle.graph_objects.specs.Matching.{MatchesAt}
-use Rattle.graph_objects.specs.Stream.{graph_id_at, entries_of, AllMatch, IsStreamUpTo, IsStreamOf, IsEntryError, IsStreamRefusal}
-use Rattle.graph_objects.specs.declared.error.EntryError.{EntryError}
-use Rattle.graph_objects.specs.declared.error.EntryError.TheVariants as error
+use Rattle.commit_objects.specs.Object.{object_id_of}
+use Rattle.object_stream.specs.BatchEntry.{commit_entry, BeginsWithEntry}
+use Rattle.object_stream.specs.NextEntry.{IsEntryError}
+use Rattle.object_stream.specs.declared.error.EntryError.{EntryError}
+use Rattle.object_stream.proofs.OnceLemmas.{entry_not_refused, entry_once}
+use Rattle.graph_objects.specs.Matching.{AreContentsAt, MatchesAt}
+use Rattle.graph_objects.specs.Stream.{graph_id_at, entries_of, AllMatch, IsStreamUpTo, IsStreamOf, IsEntryErrorAt, IsMismatchIn}
+use Rattle.graph_objects.specs.Stream.{IsStreamRefusal}
+use Rattle.graph_objects.specs.declared.Mismatch.{Mismatch as Difference}
 use Rattle.graph_objects.specs.declared.error.ObjectsError.{ObjectsError}
-use Rattle.graph_objects.specs.declared.error.ObjectsError.TheVariants.{Entry, LeftOver, Device, OutOfMemory}
-use Rattle.graph_objects.proofs.DigestLemmas.{matched-bytes, matched-short}
+use Rattle.graph_objects.specs.declared.error.ObjectsError.TheVariants.{Entry, Mismatch, LeftOver, Device, OutOfMemory}
+use Rattle.graph_objects.proofs.DigestLemmas.{contents_there, matched_contents}
 use Rattle.graph_objects.proofs.MatchLemmas.{excluded}
-use Rattle.graph_objects.proofs.OnceLemmas.{line_once, no_line, no_line_at_all, not_other, entry_head, head_once, entry_once}
+
+-- an entry at the front is one, where the id at the position is that of its contents
+pub entry_once_at : (layers : List Layer) (p : ℕ) (bytes contents other next end : List ℕ)
+    → BeginsWithEntry (graph_id_at layers p) bytes contents next → BeginsWithEntry (graph_id_at layers p) bytes other end
+    → AreContentsAt layers p contents → AreContentsAt layers p other → (contents ≡ other) × (next ≡ end)
+entry_once_at layers p bytes contents other next end one two own its =
+    let a = contents_there layers p contents own in
+    let b = contents_there layers p other its in
+    let same : b.0 ≡ a.0 = ap (λ (place : Layer × ℕ). place.0) (same_Some _ _ (sym b.2 ∙ a.2)) in
+    let kind = a.0.kind in
+    let second : graph_id_at layers p ≡ object_id_of kind other =
+    b.3 ∙ ap (λ (l : Layer). object_id_of l.kind other) same in
+    entry_once kind bytes contents other next end (rw a.3 at one) (rw second at two)
 
 -- an entry that matches is not refused
 module _ (layers : List Layer) (p : ℕ) (bytes contents next : List ℕ)
     (entry : BeginsWithEntry (graph_id_at layers p) bytes contents next)
     (matches : MatchesAt layers p contents) where
-  id : List ℕ
-  id = graph_id_at layers p
+  pub not_refused : (e : EntryError) → ¬ (IsEntryErrorAt layers p bytes e)
+  not_refused e refused =
+      let a = contents_there layers p contents (matched_contents layers p contents matches) in
+      let kind = a.0.kind in
+      let here : IsEntryError kind (Some (graph_id_at layers p)) bytes e = rw a.2 at refused in
+      entry_not_refused kind (Some (graph_id_at layers p)) bytes contents next (rw a.3 at entry)
+      (ap encode_lower (sym a.3)) e here
 
-  abbrev whole : List ℕ
-  whole = contents ++ 10 ∷ next
-
-  head : IsCommitHead (graph_id_at layers p) bytes (length contents) (contents ++ 10 ∷ next)
-  head = entry_head (graph_id_at layers p) bytes contents next (matched-bytes layers p contents matches)
-      (matched-short layers p contents matches) entry
-
-  not_by_line : (line rest : List ℕ) (e : EntryError) → IsLine bytes line rest → ¬ (IsOtherLine (graph_id_at layers p) line e)
-  not_by_line line rest e is other =
-      let same = line_once bytes (line_of_commit (graph_id_at layers p) (length contents)) line whole rest head.line is in
-      not_other (graph_id_at layers p) (length contents) e (matched-bytes layers p contents matches) head.fits (rw same.0 other)
-
-  pub not_refused : (e : EntryError) → ¬ (IsEntryError layers p bytes e)
-  not_refused error.Ends refused = ⊎_elim
-      (λ (none : HasNoFeed bytes × (length bytes < longest_line)).
-      no_line_at_all bytes (line_of_commit (graph_id_at layers p) (length contents)) whole none.0 none.1 head.line)
-      (λ (cut : (size : ℕ) × (rest : List ℕ) × IsCommitHead (graph_id_at layers p) bytes size rest × (length rest ≤ size)).
-      let same = head_once (graph_id_at layers p) bytes (length contents) cut.0 whole cut.1 head cut.2 in
-      omega (arith, same.0, ap length same.1, cut.3, length-append contents (10 ∷ next)))
-      refused
-  not_refused error.NoEntry refused = ⊎_elim
-      (λ (none : HasNoFeed (take longest_line bytes) × (longest_line ≤ length bytes)).
-      no_line bytes (line_of_commit (graph_id_at layers p) (length contents)) whole none.0 head.line)
-      (λ (others : ((line : List ℕ) × (rest : List ℕ) × IsLine bytes line rest
-      × IsOtherLine (graph_id_at layers p) line error.NoEntry)
-      ⊎ ((size : ℕ) × (rest : List ℕ) × IsCommitHead (graph_id_at layers p) bytes size rest × (size < length rest)
-      × (get_or rest size 0 ≢ 10))). ⊎_elim
-      (λ (other : (line : List ℕ) × (rest : List ℕ) × IsLine bytes line rest
-      × IsOtherLine (graph_id_at layers p) line error.NoEntry).
-      not_by_line other.0 other.1 error.NoEntry other.2 other.3)
-      (λ (feed : (size : ℕ) × (rest : List ℕ) × IsCommitHead (graph_id_at layers p) bytes size rest × (size < length rest)
-      × (get_or rest size 0 ≢ 10)).
-      let same = head_once (graph_id_at layers p) bytes (length contents) feed.0 whole feed.1 head feed.2 in
-      feed.4 (ap (λ l. get_or l feed.0 0) (sym same.1) ∙ get_or_at contents 10 next 0 feed.0 same.0))
-      others)
-      refused
-  not_refused error.OtherId refused = not_by_line refused.0 refused.1 error.OtherId refused.2 refused.3
-  not_refused error.Missing refused = not_by_line refused.0 refused.1 error.Missing refused.2 refused.3
-  not_refused error.NotACommit refused = not_by_line refused.0 refused.1 error.NotACommit refused.2 refused.3
-  not_refused (error.Mismatch m) refused =
-      let same = entry_once (graph_id_at layers p) bytes contents refused.0 next refused.1
-      (matched-bytes layers p contents matches)
-      (matched-short layers p contents matches) entry refused.2 in
-      excluded layers p contents m matches (rw same.0 refused.3)
+  pub not_mismatched : (m : Difference) → ¬ (IsMismatchIn layers p bytes m)
+  not_mismatched m refused =
+      let same = entry_once_at layers p bytes contents refused.0 next refused.1 entry refused.2
+      (matched_contents layers p contents matches) refused.3 in
+      excluded layers p contents m matches (rw same.0 refused.4)
 
 -- two passages over the same bytes: what the longer one has more stands behind the shorter one
 record HasMore (layers : List Layer) (p : ℕ) (count : ℕ) (next end : List ℕ) : Type 0 where
@@ -108,8 +90,8 @@ has_more layers first (c ∷ some) (d ∷ all) bytes next end one two e f fewer 
           ∙ append_assoc (commit_entry id d) (entries_of layers (first + 1) all) end;
       fits = two.0.1;
     } in
-    let same = entry_once id bytes c d rest others (matched-bytes layers first c one.0.0) (matched-short layers first c one.0.0)
-    front back in
+    let same = entry_once_at layers first bytes c d rest others front back (matched_contents layers first c one.0.0)
+    (matched_contents layers first d two.0.0) in
     let later = has_more layers (first + 1) some all rest next end one.1 two.1 refl same.1 (omega (arith, fewer)) in
     let place : first + 1 + length some ≡ first + length (c ∷ some) = omega arith in
     (later.0, omega (arith, later.1), rw place at later.2)
@@ -158,6 +140,9 @@ pub right_not_refused : (layers : List Layer) (first end : ℕ) (bytes : List �
 right_not_refused layers first end bytes (Entry pos e) right refused =
     let there = entry_there layers first pos.0 end bytes refused.0 [] refused.2 right refused.1 in
     not_refused layers pos.0 refused.0 there.0 there.1 there.2 there.3 e refused.3
+right_not_refused layers first end bytes (Mismatch pos m) right refused =
+    let there = entry_there layers first pos.0 end bytes refused.0 [] refused.2 right refused.1 in
+    not_mismatched layers pos.0 refused.0 there.0 there.1 there.2 there.3 m refused.3
 right_not_refused layers first end bytes LeftOver right refused =
     refused.2 (same_next layers first end bytes refused.0 [] refused.1 right)
 right_not_refused layers first end bytes Device right refused = refused

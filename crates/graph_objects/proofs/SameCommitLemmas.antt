@@ -17,13 +17,13 @@ use Rattle.commit_objects.specs.CommitContents.{Said, Says}
 use Rattle.commit_objects.specs.Object.{object_id_of, object_of}
 use Rattle.commit_objects.specs.Time.{IsTime}
 use Rattle.commit_objects.proofs.ParentLemmas.{says_one}
-use Rattle.graph_objects.specs.BatchEntry.{line_of_commit, commit_entry, BeginsWithEntry}
+use Rattle.object_stream.specs.BatchEntry.{line_of_commit, commit_entry, BeginsWithEntry}
 use Rattle.graph_objects.specs.Matching.{MatchesAt, recorded_parents, each_known}
 use Rattle.graph_objects.specs.OneGraph.{SayTheSame, HaveTheSameCommits, HaveNoTwoContents}
 use Rattle.graph_objects.specs.Stream.{graph_id_at, entries_of, AllMatch, IsStreamOf}
 use Rattle.graph_objects.proofs.CommitLemmas.{of_layer}
 use Rattle.graph_objects.proofs.DigestLemmas.{matched, matched-id, matched-bytes, matched-short}
-use Rattle.graph_objects.proofs.OnceLemmas.{line_once, entry_head, same_cut}
+use Rattle.object_stream.proofs.OnceLemmas.{line_once, entry_head, same_cut}
 
 -- Bytes that begin with the entries of two ids that are as long begin with the same contents.
 entry_same : (i j c d bytes x y : List ℕ) → All (λ b. b < 256) i → All (λ b. b < 256) j → length i ≤ 32 → length j ≤ 32

@@ -7,13 +7,14 @@ use Rattle.std.specs.Io.KnownBytes.{Keeps, IsAtEnd, prepend_known}
 use Rattle.std.proofs.lemmas.List.{length-append, nil_from_length}
 use Rattle.graph_format.specs.Layer.{Layer}
 use Rattle.graph_format.specs.declared.Position.{Position}
-use Rattle.graph_objects.specs.BatchEntry.{commit_entry, BeginsWithEntry}
+use Rattle.object_stream.specs.BatchEntry.{commit_entry, BeginsWithEntry}
+use Rattle.object_stream.specs.FoundEntry.{BothKnown}
 use Rattle.graph_objects.specs.Matching.{MatchesAt}
 use Rattle.graph_objects.specs.Stream.{graph_id_at, entries_of, AllMatch, IsStreamUpTo, IsStreamOf, IsLong}
 use Rattle.graph_objects.specs.Stream.{MayRefuseStream, HasLong}
-use Rattle.graph_objects.specs.Taking.{BothKnown, TakesEntry, MayStop}
+use Rattle.graph_objects.specs.Taking.{TakesEntry, MayRefuseEntry}
 use Rattle.graph_objects.specs.declared.error.ObjectsError.{ObjectsError}
-use Rattle.graph_objects.specs.declared.error.ObjectsError.TheVariants.{Entry, LeftOver, Device, OutOfMemory}
+use Rattle.graph_objects.specs.declared.error.ObjectsError.TheVariants.{Entry, Mismatch, LeftOver, Device, OutOfMemory}
 
 -- one entry more
 pub entries_of-push : (layers : List Layer) (p : ℕ) (all : List (List ℕ)) (contents : List ℕ)
@@ -78,11 +79,13 @@ one_known layers first p (Some bytes) (Some mid) (Some next) passed takes =
 -- the entry of a position is refused
 pub stopped : (layers : List Layer) (first end : ℕ) (pos : Position) (before now : Option (List ℕ)) (error : ObjectsError)
     → pos.0 < end
-    → Passed layers first pos.0 before now → IfSome now (λ bytes. MayStop layers pos bytes error)
+    → Passed layers first pos.0 before now → IfSome now (λ bytes. MayRefuseEntry layers pos bytes error)
     → IfSome before (λ bytes. MayRefuseStream layers first end bytes error)
 stopped layers first end pos None now error within passed stop = tt
 stopped layers first end pos (Some bytes) None error within passed stop = absurd passed
 stopped layers first end pos (Some bytes) (Some next) (Entry other e) within passed stop =
+    rw stop.0 (next, within, passed, stop.1)
+stopped layers first end pos (Some bytes) (Some next) (Mismatch other m) within passed stop =
     rw stop.0 (next, within, passed, stop.1)
 stopped layers first end pos (Some bytes) (Some next) LeftOver within passed stop = absurd stop
 stopped layers first end pos (Some bytes) (Some next) Device within passed stop = tt
@@ -91,7 +94,7 @@ stopped layers first end pos (Some bytes) (Some next) OutOfMemory within passed 
 -- and so for want of memory
 pub long_stopped : (layers : List Layer) (first end : ℕ) (pos : Position) (before now : Option (List ℕ)) (error : ObjectsError)
     → pos.0 < end
-    → Passed layers first pos.0 before now → IfSome now (λ bytes. MayStop layers pos bytes error) → error ≡ OutOfMemory
+    → Passed layers first pos.0 before now → IfSome now (λ bytes. MayRefuseEntry layers pos bytes error) → error ≡ OutOfMemory
     → IfSome before (HasLong layers first end)
 long_stopped layers first end pos None now error within passed stop memory = tt
 long_stopped layers first end pos (Some bytes) None error within passed stop memory = absurd passed

@@ -1,8 +1,6 @@
 pub mod Matching
 pub mod Mismatches
 pub mod ParentLines
-pub mod Reading
-pub mod BatchEntry
 pub mod Stream
 pub mod OneGraph
 pub mod Taking

@@ -51,3 +51,7 @@ SaysAsRecorded layers kind layer pos bytes = (said : Said) × Says kind bytes sa
 -- the same of the commit at a position of the graph
 abbrev pub MatchesAt : List Layer → ℕ → List ℕ → Type 0
 MatchesAt layers p bytes = IsSomeAnd (slice_get (graph_commits layers) p) (λ place. Matches layers place.0 place.1 bytes)
+
+-- the bytes are those that the id at the position is the digest of
+abbrev pub AreContentsAt : List Layer → ℕ → List ℕ → Type 0
+AreContentsAt layers p bytes = IsSomeAnd (slice_get (graph_commits layers) p) (λ place. AreContents place.0 place.1 bytes)

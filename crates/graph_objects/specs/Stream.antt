@@ -1,17 +1,17 @@
 -- A stream of the commits of a graph, and why bytes are none (git-cat-file, "BATCH OUTPUT").
-use Rattle.std.specs.Prelude.{◌≡◌, ◌≢◌, ◌<◌, ◌≤◌, ◌^◌, ℕ, ◌+◌, List, [], ◌++◌, length}
-use Rattle.std.specs.Prelude.{slice_index_or, All}
+use Rattle.std.specs.Prelude.{◌≡◌, ◌≢◌, ◌<◌, ◌^◌, ℕ, ◌+◌, List, [], ◌++◌, length}
+use Rattle.std.specs.Prelude.{slice_index_or, slice_get, IsSomeAnd, Some}
 use Rattle.std.specs.List.{AllByRecursion, flat_map, enumerate_from}
 use Rattle.graph_format.specs.Layer.{Layer}
-use Rattle.gix_commitgraph.specs.Graph.{graph_ids}
-use Rattle.graph_objects.specs.BatchEntry.{line_of_commit, commit_entry, IsLine, IsOtherLine, IsCommitHead, BeginsWithEntry}
-use Rattle.graph_objects.specs.BatchEntry.{EndsWithinEntryOf, BeginsWithNoEntryFor}
-use Rattle.graph_objects.specs.Matching.{MatchesAt}
+use Rattle.gix_commitgraph.specs.Graph.{graph_commits, graph_ids}
+use Rattle.object_stream.specs.BatchEntry.{commit_entry, BeginsWithEntry}
+use Rattle.object_stream.specs.NextEntry.{BeginsWithLongEntry, IsEntryError}
+use Rattle.object_stream.specs.declared.error.EntryError.{EntryError}
+use Rattle.graph_objects.specs.Matching.{AreContentsAt, MatchesAt}
 use Rattle.graph_objects.specs.Mismatches.{MismatchesAt}
-use Rattle.graph_objects.specs.declared.error.EntryError.{EntryError}
-use Rattle.graph_objects.specs.declared.error.EntryError.TheVariants.{Ends, NoEntry, Mismatch}
+use Rattle.graph_objects.specs.declared.Mismatch.{Mismatch as Difference}
 use Rattle.graph_objects.specs.declared.error.ObjectsError.{ObjectsError}
-use Rattle.graph_objects.specs.declared.error.ObjectsError.TheVariants.{Entry, LeftOver, Device, OutOfMemory}
+use Rattle.graph_objects.specs.declared.error.ObjectsError.TheVariants.{Entry, Mismatch, LeftOver, Device, OutOfMemory}
 
 -- the id at a position
 abbrev pub graph_id_at : List Layer → ℕ → List ℕ
@@ -36,26 +36,30 @@ pub record IsStreamUpTo (layers : List Layer) (first p : ℕ) (bytes next : List
 abbrev pub IsStreamOf : List Layer → ℕ → ℕ → List ℕ → Type 0
 IsStreamOf layers first end bytes = IsStreamUpTo layers first end bytes []
 
--- why the bytes do not begin with the entry of a position that matches: the first reason, in this order
-abbrev pub IsEntryError : List Layer → ℕ → List ℕ → EntryError → Type 0
-IsEntryError layers p bytes Ends = EndsWithinEntryOf (graph_id_at layers p) bytes
-IsEntryError layers p bytes NoEntry = BeginsWithNoEntryFor (graph_id_at layers p) bytes
-IsEntryError layers p bytes (Mismatch mismatch) =
+-- why the bytes do not begin with the entry of the commit at a position: the first reason
+abbrev pub IsEntryErrorAt : List Layer → ℕ → List ℕ → EntryError → Type 0
+IsEntryErrorAt layers p bytes error =
+    IsSomeAnd (slice_get (graph_commits layers) p)
+    (λ place. IsEntryError place.0.kind (Some (graph_id_at layers p)) bytes error)
+
+-- why the entry of the commit at a position, with which the bytes begin, does not match: the first reason
+abbrev pub IsMismatchIn : List Layer → ℕ → List ℕ → Difference → Type 0
+IsMismatchIn layers p bytes mismatch =
     (contents : List ℕ) × (next : List ℕ) × BeginsWithEntry (graph_id_at layers p) bytes contents next
-    × MismatchesAt layers p contents mismatch
-IsEntryError layers p bytes error =
-    (line : List ℕ) × (next : List ℕ) × IsLine bytes line next × IsOtherLine (graph_id_at layers p) line error
+    × AreContentsAt layers p contents × MismatchesAt layers p contents mismatch
 
 -- the bytes begin with the line of an entry of more than 64 KiB
 abbrev pub IsLong : List Layer → ℕ → List ℕ → Type 0
 IsLong layers p bytes =
-    let id = graph_id_at layers p in
-    (size : ℕ) × (next : List ℕ) × IsCommitHead id bytes size next × (65536 < length (line_of_commit id size) + 1 + size + 1)
+    IsSomeAnd (slice_get (graph_commits layers) p)
+    (λ place. BeginsWithLongEntry place.0.kind (Some (graph_id_at layers p)) bytes)
 
 -- why the bytes are not the stream of the positions from first up to end: the first entry that is refused, or what is left over
 abbrev pub IsStreamRefusal : List Layer → ℕ → ℕ → List ℕ → ObjectsError → Type 0
 IsStreamRefusal layers first end bytes (Entry pos error) =
-    (next : List ℕ) × (pos.0 < end) × IsStreamUpTo layers first pos.0 bytes next × IsEntryError layers pos.0 next error
+    (next : List ℕ) × (pos.0 < end) × IsStreamUpTo layers first pos.0 bytes next × IsEntryErrorAt layers pos.0 next error
+IsStreamRefusal layers first end bytes (Mismatch pos mismatch) =
+    (next : List ℕ) × (pos.0 < end) × IsStreamUpTo layers first pos.0 bytes next × IsMismatchIn layers pos.0 next mismatch
 IsStreamRefusal layers first end bytes LeftOver = (next : List ℕ) × IsStreamUpTo layers first end bytes next × (next ≢ [])
 IsStreamRefusal layers first end bytes Device = ⊥
 IsStreamRefusal layers first end bytes OutOfMemory = ⊥
@@ -70,7 +74,3 @@ MayRefuseStream layers first end bytes error = IsStreamRefusal layers first end 
 abbrev pub HasLong : List Layer → ℕ → ℕ → List ℕ → Type 0
 HasLong layers first end bytes = (p : ℕ) × (next : List ℕ) × (p < end) × IsStreamUpTo layers first p bytes next
     × IsLong layers p next
-
--- the ids of a graph are bytes, at most 32 of them, as those of any file are
-abbrev pub HaveIdsOfBytes : List Layer → Type 0
-HaveIdsOfBytes layers = All (λ id. All (λ b. b < 256) id × (length id ≤ 32)) (graph_ids layers)

@@ -14,28 +14,9 @@ ghost use Rattle.graph_objects.specs.Mismatches.{IsAmiss, Mismatches, Mismatches
 use crate::Mismatch;
 use crate::parents::{behind_parents, differing_parent};
 use commit_objects::{CommitObject, behind_line, older_time};
+use gix_commitgraph::Graph;
 use gix_commitgraph::file::Commit;
-use gix_commitgraph::{Graph, Position};
-use gix_hash_core::{Kind, ObjectId, digest, oid};
-
-/// Compares the commit at a position with a commit object, of which so many bytes stand before its
-/// contents. It is digested where it stands.
-pub(crate) fn matches_object(
-    graph: &Graph,
-    pos: Position,
-    object: &[u8],
-    head: usize,
-) -> Result<(), Mismatch>
-    requires within { pos.0 < total graph.now }
-    requires head { head ≤ length object.now }
-    requires object { object.now ≡ object_of (drop head object.now) }
-    ensures { MatchResult result (λ _. MatchesAt graph.now pos.0 (drop head object.now))
-        (MismatchesAt graph.now pos.0 (drop head object.now)) }
-{
-    let kind = graph.object_hash();
-    let id = digest(kind, object);
-    matches_commit(graph, kind, graph.commit_at(pos), &id, &object[head..])
-}
+use gix_hash_core::{Kind, ObjectId, oid};
 
 /// Compares a commit of a graph of this kind with the contents of a commit object that has this id.
 pub(crate) fn matches_commit(

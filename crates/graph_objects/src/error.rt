@@ -2,40 +2,20 @@
 
 use crate::Mismatch;
 use gix_commitgraph::Position;
+use object_stream::{EntryError, ReadFailure};
 use thiserror::Error;
-
-/// Why what stands in a stream is not the entry of a commit that matches. Its text is the name of
-/// the variant alone.
-#[derive(Clone, Copy, Debug, PartialEq, Eq, Error)]
-pub enum EntryError {
-    /// The stream ends before the entry is whole.
-    #[error("Ends")]
-    Ends,
-    /// There is no entry: the line before the contents is none of such a stream, or no line feed
-    /// follows the contents.
-    #[error("NoEntry")]
-    NoEntry,
-    /// The line names another id.
-    #[error("OtherId")]
-    OtherId,
-    /// The line says that the object is not there.
-    #[error("Missing")]
-    Missing,
-    /// The line says that the object is no commit.
-    #[error("NotACommit")]
-    NotACommit,
-    /// The graph does not say what the contents say.
-    #[error("Mismatch")]
-    Mismatch(Mismatch),
-}
 
 /// Why a stream is not that of a graph's commits, or could not be read. Its text is the name of the
 /// variant alone.
 #[derive(Clone, Copy, Debug, PartialEq, Eq, Error)]
 pub enum ObjectsError {
-    /// The entries before that of this position match, and this one does not.
+    /// The entries before that of this position match, and this one is not there.
     #[error("Entry")]
     Entry(Position, EntryError),
+    /// The entries before that of this position match, and this one does not, though the id of the
+    /// commit is that of its contents.
+    #[error("Mismatch")]
+    Mismatch(Position, Mismatch),
     /// Bytes are left after the last entry.
     #[error("LeftOver")]
     LeftOver,
@@ -45,4 +25,18 @@ pub enum ObjectsError {
     /// An allocation failed.
     #[error("OutOfMemory")]
     OutOfMemory,
+}
+
+impl From<ReadFailure> for ObjectsError {
+    ghost use Rattle.std.specs.Prelude.{◌≡◌};
+    ghost use Rattle.graph_objects.specs.Taking.{error_of_failure};
+
+    ghost from_gives = { λ failure error. error ≡ error_of_failure failure };
+
+    fn from(failure: ReadFailure) -> ObjectsError {
+        match failure {
+            ReadFailure::Device => ObjectsError::Device,
+            ReadFailure::OutOfMemory => ObjectsError::OutOfMemory,
+        }
+    }
 }

@@ -13,7 +13,7 @@ ghost use Rattle.graph_objects.specs.Matching.{MatchesAt};
 ghost use Rattle.graph_objects.specs.Mismatches.{MismatchesAt};
 ghost use Rattle.graph_objects.specs.OneGraph.{HaveNoTwoContents, HaveTheSameCommits};
 ghost use Rattle.graph_objects.specs.OneGraph.{IsOneGraph};
-ghost use Rattle.graph_objects.specs.Stream.{graph_id_at, HaveIdsOfBytes, IsStreamOf};
+ghost use Rattle.graph_objects.specs.Stream.{graph_id_at, IsStreamOf};
 ghost use Rattle.graph_objects.specs.Stream.{IsStreamRefusal};
 ghost use Rattle.graph_objects.specs.declared.Mismatch.{Mismatch};
 ghost use Rattle.graph_objects.specs.declared.error.ObjectsError.{ObjectsError};
@@ -31,11 +31,11 @@ pub fn a_right_stream_is_not_refused()
         → IsStreamOf layers from to bytes → ¬ IsStreamRefusal layers from to bytes error }
 {}
 
-/// A stream is refused for one reason alone, where the ids of the graph are bytes.
+/// A stream is refused for one reason alone.
 pub fn a_stream_is_refused_for_one_reason()
     ensures { (layers : List Layer) (from to : ℕ) (bytes : List ℕ) (error other : ObjectsError)
-        → HaveIdsOfBytes layers → IsStreamRefusal layers from to bytes error
-        → IsStreamRefusal layers from to bytes other → error ≡ other }
+        → IsStreamRefusal layers from to bytes error → IsStreamRefusal layers from to bytes other
+        → error ≡ other }
 {}
 
 /// Two parts that join are a whole.

@@ -8,18 +8,14 @@ ghost use Rattle.graph_objects.specs.Matching.{MatchesAt};
 ghost use Rattle.graph_objects.specs.Mismatches.{MismatchesAt};
 
 mod ahead;
-pub mod buffer;
 mod commit;
 mod error;
-pub mod heading;
 pub mod law;
-pub mod line;
-mod own_line;
 mod parents;
 mod stream;
 
 use commit_objects::object_id;
-pub use error::{EntryError, ObjectsError};
+pub use error::ObjectsError;
 use gix_commitgraph::{Graph, Position};
 pub use stream::check_objects;
 use thiserror::Error;

@@ -1,31 +1,26 @@
 //! The check of a graph against a stream.
 
-ghost use Rattle.std.specs.Prelude.{◌≡◌, ◌⊎◌, ◌<◌, ◌≤◌, Err, IfErr, IfOk, IfSome, OnOk};
+ghost use Rattle.std.specs.Prelude.{◌≡◌, ◌⊎◌, ◌<◌, ◌≤◌, Err, IfErr, IfSome, OnOk};
 ghost use Rattle.std.specs.Io.KnownBytes.{IsAtEnd, Keeps, prepend_known};
 ghost use Rattle.gix_commitgraph.specs.Graph.{total};
-ghost use Rattle.graph_objects.specs.Matching.{MatchesAt};
-ghost use Rattle.graph_objects.specs.Mismatches.{MismatchesAt};
 ghost use Rattle.graph_objects.specs.Stream.{IsStreamOf, MayRefuseStream, HasLong};
-ghost use Rattle.std.specs.Prelude.{◌+◌, MatchResult, nat_lt, if◌then◌else◌, drop, length, take};
-ghost use Rattle.graph_objects.specs.BatchEntry.{longest_line};
-ghost use Rattle.graph_objects.specs.Taking.{MayStop, TakesEntry, FindsHead};
+ghost use Rattle.graph_objects.specs.Taking.{MayRefuseEntry, TakesEntry, stream_error_at};
 
-use crate::buffer::Buffer;
-use crate::commit::matches_object;
-use crate::error::{EntryError, ObjectsError};
-use crate::line::{LINE, commit_size, line_end};
-use crate::own_line::own_line;
-use crate::{Mismatch, ahead};
+use crate::ahead;
+use crate::commit::matches_commit;
+use crate::error::ObjectsError;
 use gix_commitgraph::{Graph, Position};
+use object_stream::{Buffer, StreamError, next_entry};
 use std::alloc::Global;
 use std::io::Read;
 
 /// Compares the commits of a graph, at the positions from `from` up to and without `to`, with a
 /// stream that `git cat-file --batch` wrote for their ids, in the order of the positions. The
 /// reader is read to its end. The first thing that is wrong is the answer, position by position,
-/// and for one position in the order of the variants of [`EntryError`]; `LeftOver` where bytes
-/// follow the last entry. `Device` comes where a read failed, and `OutOfMemory` where nothing could
-/// be read for want of memory, or an entry of more than 64 KiB did not fit.
+/// and for one position in the order of the variants of [`EntryError`](object_stream::EntryError),
+/// then of [`Mismatch`](crate::Mismatch); `LeftOver` where bytes follow the last entry. `Device`
+/// comes where a read failed, and `OutOfMemory` where nothing could be read for want of memory, or
+/// an entry of more than 64 KiB did not fit.
 pub fn check_objects<R: Read>(
     alloc: Global,
     graph: &Graph,
@@ -80,87 +75,31 @@ fn check_next<R: Read>(
         (prepend_known buffer.old (R.remaining reader.old))
         (prepend_known buffer.new (R.remaining reader.new))) }
     ensures err { IfErr result (λ error. IfSome (prepend_known buffer.old (R.remaining reader.old))
-        (λ bytes. MayStop graph.now pos bytes error)) }
+        (λ bytes. MayRefuseEntry graph.now pos bytes error)) }
 {
-    let (line, size) = next_size(graph, pos, buffer, reader)?;
-    if !buffer.fill(reader, line + 1, size)? {
-        return Err(ObjectsError::Entry(pos, EntryError::Ends));
-    }
-    let rest = &buffer.bytes()[line + 1..];
-    if rest[size] != b'\n' {
-        return Err(ObjectsError::Entry(pos, EntryError::NoEntry));
-    }
-    match matches_entry(graph, pos, buffer, line, size) {
+    let commit = graph.commit_at(pos);
+    let kind = graph.object_hash();
+    let id = graph.id_at(pos).to_owned();
+    let entry = match next_entry(kind, Some(id), buffer, reader) {
+        Ok(entry) => entry,
+        Err(error) => return Err(error_at(pos, error)),
+    };
+    let contents = &buffer.bytes()[..entry.size];
+    match matches_commit(graph, kind, commit, &entry.id, contents) {
         Ok(()) => {
-            buffer.consume(line + 1 + size + 1);
+            buffer.consume(entry.size + 1);
             Ok(())
         }
-        Err(mismatch) => Err(ObjectsError::Entry(pos, EntryError::Mismatch(mismatch))),
+        Err(mismatch) => Err(ObjectsError::Mismatch(pos, mismatch)),
     }
 }
 
-/// Compares the commit at a position with the entry at the front, whose line has so many bytes and
-/// tells this size. The line ends with a line feed where the commit object, of which all the rest
-/// stands there, has a byte 00. So it gets that byte, and is no copy.
-fn matches_entry(
-    graph: &Graph,
-    pos: Position,
-    buffer: &mut Buffer,
-    line: usize,
-    size: usize,
-) -> Result<(), Mismatch>
-    requires within { pos.0 < total graph.now }
-    requires found { FindsHead graph.now pos.0 buffer.old line size }
-    requires whole { line + 1 + size ≤ length buffer.old }
-    ensures result { MatchResult result
-        (λ _. MatchesAt graph.now pos.0 (take size (drop (line + 1) buffer.old)))
-        (MismatchesAt graph.now pos.0 (take size (drop (line + 1) buffer.old))) }
-    ensures behind { drop (line + 1) buffer.new ≡ drop (line + 1) buffer.old }
+/// Why the stream gives no entry for the commit at a position.
+fn error_at(pos: Position, error: StreamError) -> ObjectsError
+    ensures { result ≡ stream_error_at pos error }
 {
-    let start = 2 * graph.id_at(pos).as_bytes().len() + 1;
-    buffer.put(line, 0);
-    let object = &buffer.bytes()[start..line + 1 + size];
-    matches_object(graph, pos, object, line + 1 - start)
-}
-
-/// The length of the next line, and the size that it tells of the commit at a position.
-fn next_size<R: Read>(
-    graph: &Graph,
-    pos: Position,
-    buffer: &mut Buffer,
-    reader: &mut R,
-) -> Result<(usize, usize), ObjectsError>
-    requires { pos.0 < total graph.now }
-    ensures told { IfOk result (λ told. FindsHead graph.now pos.0 buffer.new told.0 told.1) }
-    ensures kept { OnOk result (Keeps (prepend_known buffer.old (R.remaining reader.old))
-        (prepend_known buffer.new (R.remaining reader.new))) }
-    ensures err { IfErr result (λ error. IfSome (prepend_known buffer.old (R.remaining reader.old))
-        (λ bytes. MayStop graph.now pos bytes error)) }
-{
-    buffer.fill(reader, 0, LINE - 1)?;
-    let id = graph.id_at(pos);
-    let bytes = buffer.bytes();
-    if let Some(told) = own_line(id, bytes) {
-        return Ok(told);
+    match error {
+        StreamError::Entry(error) => ObjectsError::Entry(pos, error),
+        StreamError::Read(failure) => ObjectsError::from(failure),
     }
-    let Some(line) = line_end(bytes) else {
-        return Err(no_line(pos, bytes.len()));
-    };
-    match commit_size(id, &bytes[..line]) {
-        Ok(size) => Ok((line, size as usize)),
-        Err(error) => Err(ObjectsError::Entry(pos, error)),
-    }
-}
-
-/// Why no line ends in the first bytes, where so many are there.
-fn no_line(pos: Position, count: usize) -> ObjectsError
-    ensures { result ≡ ObjectsError.Entry pos
-        (if nat_lt count longest_line then EntryError.Ends else EntryError.NoEntry) }
-{
-    let error = if count < LINE {
-        EntryError::Ends
-    } else {
-        EntryError::NoEntry
-    };
-    ObjectsError::Entry(pos, error)
 }

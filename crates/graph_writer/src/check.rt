@@ -13,9 +13,10 @@ use crate::commit::WriteError;
 use crate::handed::{Handed, HandedCommit};
 use crate::view::CommitView;
 use gix_hash_core::{Kind, oid};
+use graph_format::records::TIME_BITS;
 
 /// A record has no room for this time, nor for a later one ("Commit Data").
-const TIME_LIMIT: u64 = 1 << 34;
+const TIME_LIMIT: u64 = 1 << TIME_BITS;
 
 /// Refuses the first commit that is wrong by itself, whatever the others are.
 pub(crate) fn check_each<C: CommitView>(

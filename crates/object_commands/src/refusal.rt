@@ -7,7 +7,8 @@ use gix_commitgraph::Position;
 use gix_commitgraph::opening::OpenError;
 use graph_commands::refusal::Refusal;
 use graph_folder::folder::ReadError;
-use graph_objects::{EntryError, Mismatch, ObjectsError};
+use graph_objects::{Mismatch, ObjectsError};
+use object_stream::EntryError;
 use std::fmt;
 
 /// Why `ids` or `objects` was refused. It is displayed as its line, without the line's end.
@@ -80,11 +81,17 @@ impl fmt::Display for StreamText {
 
     fn fmt<W: fmt::Write>(&self, f: &mut fmt::Formatter<W>) -> fmt::Result {
         match self.0 {
-            ObjectsError::Entry(pos, error) => write!(
-                f,
-                "refused objects {}",
-                EntryText(pos, error)
-            ),
+            ObjectsError::Entry(pos, error) => {
+                write!(
+                    f,
+                    "refused objects {} position {}",
+                    entry_number(error),
+                    pos.0
+                )
+            }
+            ObjectsError::Mismatch(pos, mismatch) => {
+                write!(f, "refused objects {}", MismatchText(pos, mismatch))
+            }
             ObjectsError::LeftOver => f.write_str("refused objects 11"),
             ObjectsError::Device => write!(f, "{}", Refusal::Read(ReadError::Device)),
             ObjectsError::OutOfMemory => write!(f, "{}", Refusal::Read(ReadError::OutOfMemory)),
@@ -92,22 +99,20 @@ impl fmt::Display for StreamText {
     }
 }
 
-/// Why the entry of a position is refused: what stands after `refused objects`.
+/// Why the commit at a position does not match: what stands after `refused objects`.
 #[derive(Clone, Copy)]
-struct EntryText(Position, EntryError);
+struct MismatchText(Position, Mismatch);
 
-impl fmt::Display for EntryText {
-    ghost use Rattle.object_commands.specs.ObjectsRefusalLines.{entry_text};
+impl fmt::Display for MismatchText {
+    ghost use Rattle.object_commands.specs.ObjectsRefusalLines.{mismatch_text};
 
-    ghost output = { λ text. Some (entry_text text.0 text.1) };
+    ghost output = { λ text. Some (mismatch_text text.0 text.1) };
 
     fn fmt<W: fmt::Write>(&self, f: &mut fmt::Formatter<W>) -> fmt::Result {
-        let number = entry_number(self.1);
+        let number = mismatch_number(self.1);
         let pos = self.0.0;
         match self.1 {
-            EntryError::Mismatch(Mismatch::Parent { index }) => {
-                write!(f, "{number} position {pos} index {index}")
-            }
+            Mismatch::Parent { index } => write!(f, "{number} position {pos} index {index}"),
             _ => write!(f, "{number} position {pos}"),
         }
     }
@@ -122,8 +127,8 @@ fn entry_number(error: EntryError) -> u8
         EntryError::NoEntry => 2,
         EntryError::OtherId => 3,
         EntryError::Missing => 4,
-        EntryError::NotACommit => 5,
-        EntryError::Mismatch(mismatch) => mismatch_number(mismatch),
+        EntryError::OtherType => 5,
+        EntryError::OtherContents => 6,
     }
 }
 

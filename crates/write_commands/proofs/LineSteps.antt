@@ -1,27 +1,13 @@
--- What the line of an object says, and of which kind the ids of a stream are.
-use Rattle.std.proofs.Common.{◌≡◌, ℕ, ◌*◌, ◌<◌, Bool, true, false, List, ◌++◌, length, take}
-use Rattle.std.proofs.Common.{refl, sym, ap, ◌∙◌, arith, take-append-drop, subst, None}
+-- Of which kind the ids of a stream are.
+use Rattle.std.proofs.Common.{◌≡◌, ℕ, ◌<◌, Bool, true, false, List, length, take}
+use Rattle.std.proofs.Common.{refl, sym, subst, None}
 use Rattle.std.proofs.lemmas.Bool.{le-leb, lt-leb}
 use Rattle.std.proofs.lemmas.List.Sums.{AllPass-from_list_all, list_all-from_AllPass}
 use Rattle.std.specs.Prelude.{nat_le}
 use Rattle.std.specs.List.{AllPass, IsSplitAt, list_all}
-use Rattle.gix_hash_core.specs.Kind.{id_len}
-use Rattle.gix_hash_core.specs.declared.kind.Kind.{Kind}
 use Rattle.gix_hash_core.specs.declared.kind.Kind.TheVariants.{Sha1, Sha256}
-use Rattle.graph_objects.specs.BatchEntry.{IsTail, is_lower_digit}
-use Rattle.graph_objects.specs.declared.heading.Heading.{Heading}
-use Rattle.write_commands.specs.NewStream.{IsObjectLine, kind_of_stream}
-
--- what was found of a line
-pub head_is : (kind : Kind) (line digits tail : List ℕ) (n : ℕ) (told : Heading) → n ≡ id_len kind
-    → IsSplitAt line (2 * n) digits tail → AllPass is_lower_digit digits → IsTail tail told → IsObjectLine kind line digits told
-head_is kind line digits tail n told same split lower says = record {
-  sized = grind (arith, split, same);
-  lower = lower;
-  tail = tail;
-  whole = sym (ap (λ l. l ++ tail) split.1 ∙ ap (λ l. take (2 * n) line ++ l) split.2 ∙ take-append-drop (2 * n) line);
-  is_tail = says;
-}
+use Rattle.object_stream.specs.BatchEntry.{is_lower_digit}
+use Rattle.write_commands.specs.NewStream.{kind_of_stream}
 
 -- the kind of a stream, by its front
 pub kind_of_short : (bytes : List ℕ) → length bytes < 64 → Sha1 ≡ kind_of_stream None bytes

@@ -9,13 +9,13 @@ use Rattle.std.proofs.lemmas.List.Concat.{flat_map-append}
 use Rattle.std.proofs.lemmas.List.Elements.{All-nil, All-push}
 use Rattle.gix_hash_core.specs.declared.kind.Kind.{Kind}
 use Rattle.commit_objects.specs.Object.{object_id_of}
-use Rattle.graph_objects.specs.BatchEntry.{BeginsWithEntry}
+use Rattle.object_stream.specs.BatchEntry.{BeginsWithEntry}
 use Rattle.graph_writer.specs.declared.commit.NewCommit.{NewCommit}
 use Rattle.write_commands.specs.NewEntries.{HasTaken, IsReadFailure, MayStopAt, TakesCommit}
 use Rattle.write_commands.specs.NewStream.{BeginsWithCommits, IsReadCommit, MayRefuseCommits, SaysCommits}
 use Rattle.write_commands.specs.NewStream.{entry_of_commit, kind_of_stream}
 use Rattle.write_commands.specs.declared.error.CommitsError.{CommitsError}
-use Rattle.write_commands.specs.declared.error.CommitsError.TheVariants.{Entry, Device, OutOfMemory}
+use Rattle.write_commands.specs.declared.error.CommitsError.TheVariants.{Entry, Unreadable, Device, OutOfMemory}
 
 says_push : (kind : Kind) (all : List (List ℕ)) (commits : List NewCommit) (contents : List ℕ) (commit : NewCommit)
     → AllZip (IsReadCommit kind) all commits → IsReadCommit kind contents commit
@@ -91,6 +91,8 @@ module _ (kind : Kind) (asked : Option Kind) where
   stopped commits number (Some bytes) None fault is counted taken stop = absurd taken
   stopped commits number (Some bytes) (Some next) (Entry other e) is counted taken stop =
       rw (← is) (commits, next, taken, counted ∙ sym stop.0, stop.1)
+  stopped commits number (Some bytes) (Some next) (Unreadable other) is counted taken stop =
+      rw (← is) (commits, next, taken, counted ∙ sym stop.0, stop.1)
   stopped commits number (Some bytes) (Some next) Device is counted taken stop = tt
   stopped commits number (Some bytes) (Some next) OutOfMemory is counted taken stop = tt
 
@@ -99,6 +101,7 @@ pub failed : (asked : Option Kind) (before : Option (List ℕ)) (fault : Commits
     → IfSome before (λ bytes. MayRefuseCommits asked bytes fault)
 failed asked None fault failure = tt
 failed asked (Some bytes) (Entry other e) failure = absurd failure
+failed asked (Some bytes) (Unreadable other) failure = absurd failure
 failed asked (Some bytes) Device failure = tt
 failed asked (Some bytes) OutOfMemory failure = tt
 

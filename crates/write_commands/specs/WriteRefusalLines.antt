@@ -8,26 +8,27 @@ use Rattle.graph_writer.specs.declared.commit.WriteError.{WriteError}
 use Rattle.graph_writer.specs.declared.commit.WriteError.TheVariants as error
 use Rattle.history_commands.specs.Check.{check_refusal_text}
 use Rattle.history_commands.specs.declared.check.CheckRefusal.TheVariants as check
+use Rattle.object_stream.specs.declared.error.EntryError.{EntryError}
+use Rattle.object_stream.specs.declared.error.EntryError.TheVariants as entry
 use Rattle.write_commands.specs.declared.error.CommitsError.{CommitsError}
-use Rattle.write_commands.specs.declared.error.CommitsError.TheVariants.{Entry, Device, OutOfMemory}
-use Rattle.write_commands.specs.declared.error.NewEntryError.{NewEntryError}
-use Rattle.write_commands.specs.declared.error.NewEntryError.TheVariants as entry
+use Rattle.write_commands.specs.declared.error.CommitsError.TheVariants.{Entry, Unreadable, Device, OutOfMemory}
 use Rattle.write_commands.specs.declared.refusal.LayerRefusal.{LayerRefusal}
 use Rattle.write_commands.specs.declared.refusal.LayerRefusal.TheVariants.{Graph, Stream, Commits}
 
--- the number of the reason for which an entry of a stream is refused
-abbrev pub new_entry_number : NewEntryError → ℕ
+-- the number of the reason for which an entry of a stream is refused; no id is expected, so that none is another
+abbrev pub new_entry_number : EntryError → ℕ
+new_entry_number entry.OtherId = 0
 new_entry_number entry.Ends = 1
 new_entry_number entry.NoEntry = 2
 new_entry_number entry.Missing = 3
-new_entry_number entry.NotACommit = 4
+new_entry_number entry.OtherType = 4
 new_entry_number entry.OtherContents = 5
-new_entry_number entry.Unreadable = 6
 
 -- why a stream says no commits; that it could not be read is told as `list` tells it. Entries count from 0
 abbrev pub commits_refusal_text : CommitsError → List ℕ
 commits_refusal_text (Entry number fault) =
     codes "refused stream " ⧺ decimal (new_entry_number fault) ⧺ codes " entry " ⧺ decimal number
+commits_refusal_text (Unreadable number) = codes "refused stream 6 entry " ⧺ decimal number
 commits_refusal_text Device = refusal_text (Read read.Device)
 commits_refusal_text OutOfMemory = refusal_text (Read read.OutOfMemory)
 

@@ -1,34 +1,28 @@
 //! What the contents of one commit say.
 
-ghost use Rattle.std.specs.Prelude.{◌≡◌, IfErr, IfOk, OnOk};
-ghost use Rattle.hex.specs.Hex.{encode_lower};
+ghost use Rattle.std.specs.Prelude.{◌≡◌, IfErr, IfOk};
 ghost use Rattle.commit_objects.specs.Object.{object_id_of};
 ghost use Rattle.write_commands.specs.NewEntries.{IsNoCommit};
 ghost use Rattle.write_commands.specs.NewStream.{IsReadCommit};
 
-use crate::error::{CommitsError, NewEntryError};
-use commit_objects::{CommitObject, Parents, object_id};
+use crate::error::CommitsError;
+use commit_objects::{CommitObject, Parents};
 use gix_hash_core::{Kind, ObjectId};
-use graph_objects::line::spells;
 use graph_writer::NewCommit;
 use std::alloc::{AllocError, Global};
 
-/// The commit with these contents, if they are those of the id with these digits.
+/// The commit with these contents, of which this is the id. Its entry has this number.
 pub(crate) fn new_commit(
     alloc: Global,
     kind: Kind,
     number: usize,
-    digits: &[u8],
+    id: ObjectId,
     contents: &[u8],
 ) -> Result<NewCommit, CommitsError>
+    requires { id ≡ object_id_of kind contents.now }
     ensures commit { IfOk result (IsReadCommit kind contents.now) }
-    ensures own { OnOk result (digits.now ≡ encode_lower (object_id_of kind contents.now)) }
-    ensures refused { IfErr result (IsNoCommit kind number digits.now contents.now) }
+    ensures refused { IfErr result (IsNoCommit kind number contents.now) }
 {
-    let id = object_id(kind, contents);
-    if !spells(digits, id.as_oid()) {
-        return Err(CommitsError::Entry(number, NewEntryError::OtherContents));
-    }
     match CommitObject::parse(kind, contents) {
         Ok(object) => Ok(NewCommit {
             id,
@@ -36,7 +30,7 @@ pub(crate) fn new_commit(
             parents: listed(alloc, object.parents())?,
             time: object.newer_time(),
         }),
-        Err(_) => Err(CommitsError::Entry(number, NewEntryError::Unreadable)),
+        Err(_) => Err(CommitsError::Unreadable(number)),
     }
 }
 

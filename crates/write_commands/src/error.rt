@@ -1,32 +1,8 @@
 //! Why a stream says no commits.
 
+use object_stream::{EntryError, ReadFailure};
 use std::alloc::AllocError;
 use thiserror::Error;
-
-/// Why what stands in a stream is not the entry of a commit: the first of these that holds. Its
-/// text is the name of the variant alone.
-#[derive(Clone, Copy, Debug, PartialEq, Eq, Error)]
-pub enum NewEntryError {
-    /// The stream ends before the entry is whole.
-    #[error("Ends")]
-    Ends,
-    /// There is no entry: the line before the contents is none of such a stream, or no line feed
-    /// follows the contents.
-    #[error("NoEntry")]
-    NoEntry,
-    /// The line says that the object is not there.
-    #[error("Missing")]
-    Missing,
-    /// The line says that the object is no commit.
-    #[error("NotACommit")]
-    NotACommit,
-    /// The id in the line is not the digest of the contents.
-    #[error("OtherContents")]
-    OtherContents,
-    /// The contents are no commit that Git could read.
-    #[error("Unreadable")]
-    Unreadable,
-}
 
 /// Why a stream says no commits, or could not be read. Its text is the name of the variant alone.
 #[derive(Clone, Copy, Debug, PartialEq, Eq, Error)]
@@ -34,7 +10,11 @@ pub enum CommitsError {
     /// The entries before that of this number are those of commits, and this one is not. Entries
     /// are counted from 0.
     #[error("Entry")]
-    Entry(usize, NewEntryError),
+    Entry(usize, EntryError),
+    /// The entries before that of this number are those of commits, and the contents of this one
+    /// are no commit that Git could read.
+    #[error("Unreadable")]
+    Unreadable(usize),
     /// A read failed.
     #[error("Device")]
     Device,
@@ -51,5 +31,19 @@ impl From<AllocError> for CommitsError {
 
     fn from(_: AllocError) -> CommitsError {
         CommitsError::OutOfMemory
+    }
+}
+
+impl From<ReadFailure> for CommitsError {
+    ghost use Rattle.std.specs.Prelude.{◌≡◌};
+    ghost use Rattle.write_commands.specs.NewEntries.{commits_error_of};
+
+    ghost from_gives = { λ failure error. error ≡ commits_error_of failure };
+
+    fn from(failure: ReadFailure) -> CommitsError {
+        match failure {
+            ReadFailure::Device => CommitsError::Device,
+            ReadFailure::OutOfMemory => CommitsError::OutOfMemory,
+        }
     }
 }

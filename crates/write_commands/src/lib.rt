@@ -16,7 +16,7 @@ mod read;
 mod refusal;
 mod write;
 
-pub use error::{CommitsError, NewEntryError};
+pub use error::CommitsError;
 pub use merge::run_merge;
 pub use read::read_commits;
 pub use refusal::LayerRefusal;

@@ -1,15 +1,10 @@
-//! Reading the line of an object in a stream whose ids are not known before.
+//! Of which kind the ids in a stream are that is not known before.
 
-ghost use Rattle.std.specs.Prelude.{◌≡◌, ◌*◌, None, MatchResult, take};
-ghost use Rattle.gix_hash_core.specs.Kind.{id_len};
-ghost use Rattle.graph_objects.specs.declared.heading.Heading.TheVariants as told;
-ghost use Rattle.write_commands.specs.NewEntries.{IsNoCommitLine};
-ghost use Rattle.write_commands.specs.NewStream.{IsObjectLine, kind_of_stream};
+ghost use Rattle.std.specs.Prelude.{◌≡◌, None};
+ghost use Rattle.write_commands.specs.NewStream.{kind_of_stream};
 
-use crate::error::NewEntryError;
 use gix_hash_core::Kind;
-use graph_objects::heading::Heading;
-use graph_objects::line::{are_digits, heading_of};
+use object_stream::are_digits;
 
 /// How many digits the longest id has.
 pub(crate) const MOST_DIGITS: usize = 64;
@@ -25,27 +20,5 @@ pub(crate) fn kind_in_front(bytes: &[u8]) -> Kind
         Kind::Sha256
     } else {
         Kind::Sha1
-    }
-}
-
-/// The size that a line, without its line feed, tells of a commit whose id is of this kind.
-pub(crate) fn size_in(kind: Kind, line: &[u8]) -> Result<u64, NewEntryError>
-    ensures { MatchResult result
-        (λ size. IsObjectLine kind line.now (take (2 * id_len kind) line.now) (told.Commit size))
-        (IsNoCommitLine kind line.now) }
-{
-    let Some((digits, tail)) = line.split_at_checked(2 * kind.len_in_bytes()) else {
-        return Err(NewEntryError::NoEntry);
-    };
-    let Some(heading) = heading_of(tail) else {
-        return Err(NewEntryError::NoEntry);
-    };
-    if !are_digits(digits) {
-        return Err(NewEntryError::NoEntry);
-    }
-    match heading {
-        Heading::Commit(size) => Ok(size),
-        Heading::Missing => Err(NewEntryError::Missing),
-        Heading::Other => Err(NewEntryError::NotACommit),
     }
 }

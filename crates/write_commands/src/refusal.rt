@@ -3,11 +3,12 @@
 ghost use Rattle.std.specs.Prelude.{◌≡◌, Some};
 ghost use Rattle.write_commands.specs.WriteRefusalLines.{new_entry_number};
 
-use crate::error::{CommitsError, NewEntryError};
+use crate::error::CommitsError;
 use graph_commands::refusal::Refusal;
 use graph_folder::folder::ReadError;
 use graph_writer::WriteError;
 use history_commands::CheckRefusal;
+use object_stream::EntryError;
 use std::fmt;
 
 /// Why `write` was refused. It is displayed as its line, without the line's end.
@@ -79,23 +80,25 @@ impl fmt::Display for StreamText {
             CommitsError::Entry(number, error) => {
                 write!(f, "refused stream {} entry {number}", entry_number(error))
             }
+            CommitsError::Unreadable(number) => write!(f, "refused stream 6 entry {number}"),
             CommitsError::Device => write!(f, "{}", Refusal::Read(ReadError::Device)),
             CommitsError::OutOfMemory => write!(f, "{}", Refusal::Read(ReadError::OutOfMemory)),
         }
     }
 }
 
-/// The number of the reason for which an entry is refused.
-fn entry_number(error: NewEntryError) -> u8
+/// The number of the reason for which an entry is refused. No id is expected, so that none is
+/// another.
+fn entry_number(error: EntryError) -> u8
     ensures { result ≡ new_entry_number error }
 {
     match error {
-        NewEntryError::Ends => 1,
-        NewEntryError::NoEntry => 2,
-        NewEntryError::Missing => 3,
-        NewEntryError::NotACommit => 4,
-        NewEntryError::OtherContents => 5,
-        NewEntryError::Unreadable => 6,
+        EntryError::OtherId => 0,
+        EntryError::Ends => 1,
+        EntryError::NoEntry => 2,
+        EntryError::Missing => 3,
+        EntryError::OtherType => 4,
+        EntryError::OtherContents => 5,
     }
 }
 

@@ -6,7 +6,7 @@ use Rattle.write_commands.proofs.read.kind_ahead.Goals as goal
 
 pub returns-in_ok-fill-in-None-clause-kind : goal.returns-in_ok-fill-in-None-clause-kind
 returns-in_ok-fill-in-None-clause-kind g c =
-    let view = c.fill.new.buffer in
+    let view = c.fill.new.self in
     let read = c.in_ok-fill-in-None in
     let is : c.kind_in_front.result ≡ kind_of_stream None view = rw c.bytes.ensures at c.kind_in_front.ensures in
     rw (c.in-None.is, is)

@@ -1,81 +1,54 @@
-use Rattle.std.proofs.Common.{◌≡◌, ℕ, ◌+◌, ◌*◌, ◌<◌, List, length, take, drop, arith, sym, ap, ◌∙◌}
-use Rattle.std.proofs.KnownBytes.{Keeps-trans}
-use Rattle.std.proofs.lemmas.List.{length-drop, drop-drop, take_rest}
+use Rattle.std.proofs.Common.{◌≡◌, ℕ, ◌+◌, ◌^◌, ◌<◌, List, ◌∷◌, ◌++◌, [], take, drop, arith, sym, subst}
 use Rattle.std.proofs.lemmas.Result.{err_from_is_err_and}
-use Rattle.std.specs.Io.KnownBytes.{prepend_known}
-use Rattle.hex.specs.Hex.{encode_lower}
-use Rattle.gix_hash_core.specs.Kind.{id_len}
+use Rattle.std.specs.Prelude.{IfSome}
+use Rattle.std.specs.Io.KnownBytes.{Consumes, prepend_known}
 use Rattle.commit_objects.specs.Object.{object_id_of}
-use Rattle.write_commands.specs.NewStream.{IsReadCommit}
-use Rattle.write_commands.proofs.EntrySteps.{commit_grown, commit_taken, cut_stop, no_feed_stop, not_more, other_stop, own_entry}
+use Rattle.object_stream.specs.BatchEntry.{line_of_commit}
+use Rattle.object_stream.proofs.EntryLemmas.{entry_passed, entry_read}
+use Rattle.write_commands.specs.NewEntries.{MayStopAt}
+use Rattle.write_commands.proofs.EntrySteps.{commit_taken, contents_stop, entry_stop, some_there}
 use Rattle.write_commands.proofs.read.read_commit.Goals as goal
 
-pub returns-then-not-branch-clause-err : goal.returns-then-not-branch-clause-err
-returns-then-not-branch-clause-err g c =
-    let view : List ℕ = c.fill.new.buffer in
-    let line = c.in_ok-line.line in
-    let size = c.in_ok-line.size in
-    let found = commit_grown c.args.kind c.next_size.new.buffer view line size c.in_ok-fill.ensures.grows
-    c.in_ok-line.ensures.told in
-    let kept = Keeps-trans _ _ _ c.in_ok-line.ensures.kept c.in_ok-fill.ensures.kept in
-    let few = not_more c.in_ok-fill.field-0 (line + 1 + size) (length view) c.in_ok-fill.ensures.enough c.if-not-branch.true in
-    cut_stop c.args.kind c.args.number (prepend_known c.args.buffer.now (g.R.Read.remaining c.args.reader.now))
-    (g.R.Read.remaining c.fill.new.reader) view kept line size found few (c.in_ok-fill.ensures.end c.if-not-branch.true)
-
-pub returns-then-rest-size-ne10-clause-err : goal.returns-then-rest-size-ne10-clause-err
-returns-then-rest-size-ne10-clause-err g c =
-    let view : List ℕ = c.fill.new.buffer in
-    let line = c.in_ok-line.line in
-    let size = c.in_ok-line.size in
-    let found = commit_grown c.args.kind c.next_size.new.buffer view line size c.in_ok-fill.ensures.grows
-    c.in_ok-line.ensures.told in
-    let kept = Keeps-trans _ _ _ c.in_ok-line.ensures.kept c.in_ok-fill.ensures.kept in
-    let within : size < length (drop (line + 1) view) = omega
-    (arith, length-drop (line + 1) view, c.in_ok-fill.ensures.enough.0 c.if-not-branch.false) in
-    no_feed_stop c.args.kind c.args.number (prepend_known c.args.buffer.now (g.R.Read.remaining c.args.reader.now))
-    (g.R.Read.remaining c.fill.new.reader) view kept line size found within
-    (rw (c.bytes-bytes.ensures, take_rest view (line + 1)) at c.if-rest-size-ne10.true)
+pub returns-in-Err-clause-err : goal.returns-in-Err-clause-err
+returns-in-Err-clause-err g c =
+    let known = g.R.Read.remaining c.args.reader.now in
+    let before = prepend_known c.args.buffer.now known in
+    subst (λ e. IfSome before (λ bytes. MayStopAt c.args.kind c.args.number bytes e)) (sym c.error_at.ensures)
+    (entry_stop c.args.kind c.args.number before c.in-Err.error (some_there c.args.buffer.now known c.requires)
+    c.in-Err.ensures.refused)
 
 pub returns-in_err-commit-clause-err : goal.returns-in_err-commit-clause-err
 returns-in_err-commit-clause-err g c =
-    let view : List ℕ = c.fill.new.buffer in
-    let line = c.in_ok-line.line in
-    let size = c.in_ok-line.size in
-    let found = commit_grown c.args.kind c.next_size.new.buffer view line size c.in_ok-fill.ensures.grows
-    c.in_ok-line.ensures.told in
-    let kept = Keeps-trans _ _ _ c.in_ok-line.ensures.kept c.in_ok-fill.ensures.kept in
-    let within : size < length (drop (line + 1) view) = omega
-    (arith, length-drop (line + 1) view, c.in_ok-fill.ensures.enough.0 c.if-not-branch.false) in
-    let handed = err_from_is_err_and c.from_residual-in_err-commit.result c.from_residual-in_err-commit.ensures.1 in
+    let kind = c.args.kind in
+    let entry = c.in-Ok.entry in
+    let view : List ℕ = c.next_entry.new.buffer in
+    let known = g.R.Read.remaining c.next_entry.new.reader in
+    let before = prepend_known c.args.buffer.now (g.R.Read.remaining c.args.reader.now) in
+    let front = c.in-Ok.ensures.contents in
+    let fits : entry.size < 2 ^ 64 = omega arith in
+    let line : Consumes before (prepend_known view known)
+    (line_of_commit (object_id_of kind (take entry.size view)) entry.size ++ 10 ∷ []) =
+    rw front.own at c.in-Ok.ensures.line in
+    let handed = err_from_is_err_and c.from_residual.result c.from_residual.ensures.1 in
     rw (handed.1, handed.2)
-    (other_stop c.args.kind c.args.number (prepend_known c.args.buffer.now (g.R.Read.remaining c.args.reader.now))
-    (g.R.Read.remaining c.fill.new.reader) view kept line size found within
-    (rw (c.bytes-bytes.ensures, take_rest view (line + 1)) at c.if-rest-size-ne10.false) _
-    (rw (c.bytes-bytes.ensures, c.len_in_bytes.ensures, take_rest view (line + 1)) at c.in_err-commit.ensures.refused))
+    (contents_stop kind c.args.number (take entry.size view) before _
+    (entry_read before known (object_id_of kind (take entry.size view)) view entry.size line front.within front.feed fits)
+    (rw c.bytes.ensures at c.in_err-commit.ensures.refused))
 
 pub returns-clause-ok : goal.returns-clause-ok
 returns-clause-ok g c =
     let kind = c.args.kind in
-    let view : List ℕ = c.fill.new.buffer in
-    let line = c.in_ok-line.line in
-    let size = c.in_ok-line.size in
-    let tail = drop (line + 1) view in
-    let contents = take size tail in
-    let found = commit_grown kind c.next_size.new.buffer view line size c.in_ok-fill.ensures.grows c.in_ok-line.ensures.told in
-    let kept = Keeps-trans _ _ _ c.in_ok-line.ensures.kept c.in_ok-fill.ensures.kept in
-    let within : size < length tail = omega (
-      arith,
-      length-drop (line + 1) view,
-      c.in_ok-fill.ensures.enough.0 c.if-not-branch.false,
-    ) in
-    let feed = rw (c.bytes-bytes.ensures, take_rest view (line + 1)) at c.if-rest-size-ne10.false in
-    let own : take (2 * id_len kind) view ≡ encode_lower (object_id_of kind contents) =
-    rw (c.bytes-bytes.ensures, c.len_in_bytes.ensures, take_rest view (line + 1)) at c.in_ok-commit.ensures.own in
-    let says : IsReadCommit kind contents c.in_ok-commit.commit =
-    rw (c.bytes-bytes.ensures, take_rest view (line + 1)) at c.in_ok-commit.ensures.commit in
-    let entry = own_entry kind (object_id_of kind contents) view line size found within feed own in
-    let left : c.consume.new.self ≡ drop (size + 1) tail =
-    c.consume.ensures ∙ ap (λ n. drop n view) (omega arith) ∙ sym (drop-drop (size + 1) (line + 1) view) in
+    let entry = c.in-Ok.entry in
+    let view : List ℕ = c.next_entry.new.buffer in
+    let known = g.R.Read.remaining c.next_entry.new.reader in
+    let before = prepend_known c.args.buffer.now (g.R.Read.remaining c.args.reader.now) in
+    let front = c.in-Ok.ensures.contents in
+    let fits : entry.size < 2 ^ 64 = omega arith in
+    let line : Consumes before (prepend_known view known)
+    (line_of_commit (object_id_of kind (take entry.size view)) entry.size ++ 10 ∷ []) =
+    rw front.own at c.in-Ok.ensures.line in
+    let left : c.consume.new.self ≡ drop (entry.size + 1) view = c.consume.ensures in
     rw left
-    (commit_taken kind c.in_ok-commit.commit (prepend_known c.args.buffer.now (g.R.Read.remaining c.args.reader.now))
-    (g.R.Read.remaining c.fill.new.reader) view contents (drop (size + 1) tail) kept entry says)
+    (commit_taken kind c.in_ok-commit.commit (take entry.size view) before (prepend_known (drop (entry.size + 1) view) known)
+    (entry_passed before known (object_id_of kind (take entry.size view)) view entry.size line front.within front.feed fits)
+    (rw c.bytes.ensures at c.in_ok-commit.ensures.commit))

@@ -1,6 +1,0 @@
-use Rattle.std.proofs.Common.{arith}
-use Rattle.graph_objects.proofs.LineLemmas.{feed_in_front}
-use Rattle.graph_objects.proofs.line.line_end.Goals as goal
-
-pub returns : goal.returns
-returns c = feed_in_front c.args.bytes.now c.min.result c.memchr.result (omega (arith, c.min.ensures)) c.memchr.ensures

@@ -1,5 +1,0 @@
-use Rattle.graph_objects.proofs.OwnLineLemmas.{IsRead}
-use Rattle.graph_objects.proofs.own_line.size_before_feed.Given as goal
-
-abbrev pub invariant-loop-place : goal.invariant-loop-place
-invariant-loop-place l = IsRead l.text l.place l.size

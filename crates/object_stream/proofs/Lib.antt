@@ -1,0 +1,9 @@
+pub mod LineLemmas
+pub mod CommitLineLemmas
+pub mod OwnLineLemmas
+pub mod EntryLemmas
+pub mod TakingLemmas
+pub mod ObjectLemmas
+pub mod BufferLemmas
+pub mod OnceLemmas
+pub mod SpelledLemmas

@@ -1,0 +1,4 @@
+pub mod BatchEntry
+pub mod FoundEntry
+pub mod NextEntry
+pub mod Reading
