@@ -5,10 +5,10 @@ it is asked.
 
 from typing import NamedTuple, Tuple
 
-from costs.growth import BY_BYTES, BY_PARENTS, CONSTANT, LINEAR, LOGARITHMIC, N_LOG_N, SQUARE, Growth
+from costs.growth import BY_BYTES, BY_PARENTS, CONSTANT, IN_STEPS, LINEAR, LOGARITHMIC, N_LOG_N, SQUARE, Growth
 
 SIZES = {
-    **{"lines": 500, "layers": 25, "alike": 25, "parents": 200, "lists": 80, "prefix": 1000, "steps": 1000, "tower": 1000},
+    **{"lines": 500, "layers": 25, "alike": 25, "parents": 200, "lists": 100, "prefix": 1000, "steps": 1000, "tower": 1000},
     **{"marks": 100_000, "message": 300_000, "padding": 300_000, "filters": 100_000},
 }
 """Each shape, and the first of its three sizes."""
@@ -50,7 +50,7 @@ class Row(NamedTuple):
 COMMANDS = (
     Row("list", ("lines", "parents"), LINEAR.at_most(6), LINEAR),
     Row("list", ("layers",), LINEAR, LINEAR),
-    Row("list", ("lists",), BY_PARENTS, LINEAR),
+    Row("list", ("lists",), BY_PARENTS, IN_STEPS.at_most(0.5)),
     Row("list", ("padding",), LINEAR.at_most(0.5), LINEAR),
     Row("verify", ("lines", "parents", "prefix", "lists", *FEW), LINEAR, LINEAR),
     Row("verify", ("layers",), BY_BYTES, LINEAR),
