@@ -11,7 +11,8 @@ TOOLS = ("sh", "awk", "cat", "chmod", "cp", "dirname", "find", "git", "id", "ln"
 MORE_TOOLS = ("comm", "grep", "head", "od", "sed", "sleep", "sort", "stat", "sync", "tail", "tee", "touch", "tr", "wc")
 PROGRAMS = ("graphtool", "historytool")
 COPIED = (
-    *("git-cgraph", "graphtool", "historytool", "VERSION", "docs/MANUAL.md", "tables/refusals.tsv", "docs/PROGRAMS.md"),
+    *("git-cgraph", "graphtool", "historytool", "VERSION", "docs/MANUAL.md", "docs/REFUSALS.md", "docs/PROGRAMS.md"),
+    "tables/refusals.tsv",
     *("shell/answers.sh", "shell/usage.sh", "shell/explain.awk", "tables/commands"),
     *("building/install", "building/program", "building/library", "building/package", "building/building.sh", "bindings/c/commitgraph.h"),
     *("bindings/c/commitgraph_path.h", "bindings/c/commitgraph.pc", "bindings/c/commitgraph.3", "bindings/c/commitgraph-config.cmake"),

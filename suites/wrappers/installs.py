@@ -51,8 +51,11 @@ done
 MAKES = "#!/bin/sh\nwhile [ $# -gt 1 ]; do case $1 in -o | rcD) echo made >\"$2\" ;; esac; shift; done\n"
 """A tool that makes what it is asked for."""
 
-OF_KIT = "crates/commitgraph_c/out/toolchain/bin/"
-"""Where the tools of the kit are looked for if `rt` says nothing of it."""
+RT = "#!/bin/sh\n[ \"$1\" != doc ] || echo \"${0%/bin/rt}/kit/START-HERE.md\"\n"
+"""An `rt` that says where the kit is."""
+
+OF_KIT = "kit/toolchain/bin/"
+"""Where the tools of that kit are."""
 
 COMPLETE = """
 . "$1"
@@ -262,7 +265,8 @@ def check_pages(results, clone, prefix):
 def check_library(results, folder):
     """Where the proofs of changed sources fail, no library is made of what was proved before."""
     clone = Clone(folder)
-    for tool in ("bin/rt", "bin/ld", "bin/objcopy", "bin/ar", OF_KIT + "clang"):
+    clone.put("bin/rt", RT)
+    for tool in ("bin/ld", "bin/objcopy", "bin/ar", OF_KIT + "clang"):
         clone.put(tool, MAKES)
     proved = "crates/commitgraph_c/out/libcommitgraph_c.a"
     clone.put(proved, "")
@@ -283,7 +287,7 @@ def check_run(results, folder, words):
     clone, prefix = Clone(folder), os.path.join(folder, "prefix")
     title = " ".join(["building/install", *words])
     wanted = [*PROGRAMS, *(["commitgraph_c"] if words else [])]
-    clone.put("bin/rt", MAKES)
+    clone.put("bin/rt", RT)
     if words:
         clone.put("bin/python3", PROVES)
         answer = install(clone, *words, prefix)
