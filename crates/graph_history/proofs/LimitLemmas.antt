@@ -159,7 +159,7 @@ module _ {F : Type 0} (step : F → ℕ → Result (Unit {0}) Stopped → F → 
           subst (λ (b : Bound). p ≤ b.visits) same (omega (arith, none, place.0, visited)) in
           let after : StopsAfter bound p =
           subst (λ (n : ℕ). StopsAfter bound n) visits
-              (subst (λ (b : Bound). StopsAfter b (value at.then)) (counts.1 ∙ same) (stops at.then p e g at.answered)) in
+          (subst (λ (b : Bound). StopsAfter b (value at.then)) (counts.1 ∙ same) (stops at.then p e g at.answered)) in
           record {
             there = omega (arith, place.0, place.1);
             within = within;

@@ -1,20 +1,15 @@
 -- Two graphs that match one stream have the same commits.
-use Rattle.std.proofs.Common.{◌≡◌, ℕ, zero, suc, ◌+◌, ◌<◌, ◌≤◌, List, [], ◌∷◌, ◌++◌, length, get_or, refl, sym}
-use Rattle.std.proofs.Common.{ap, ◌∙◌, arith, append-nil, decimal, subst}
-use Rattle.std.specs.Prelude.{All, Contains, Some, option_map, IsSomeAnd, codes}
-use Rattle.std.proofs.lemmas.Fmt.{decimal_injective}
-use Rattle.std.proofs.lemmas.List.{append_cancel_left, length-append}
+use Rattle.std.proofs.Common.{◌≡◌, ℕ, zero, suc, ◌+◌, ◌<◌, List, [], ◌∷◌, ◌++◌, length, get_or, refl, sym}
+use Rattle.std.proofs.Common.{ap, ◌∙◌, arith, append-nil, subst}
+use Rattle.std.specs.Prelude.{All, Contains, Some, option_map, IsSomeAnd}
+use Rattle.std.proofs.lemmas.List.{length-append}
 use Rattle.std.proofs.lemmas.Option.{slice_get-get_or, get_or_from_slice_get}
-use Rattle.hex.specs.Hex.{encode_lower, lower_digits}
-use Rattle.hex.proofs.HexLemmas.{length-encode_with}
 use Rattle.gix_hash_core.specs.declared.kind.Kind.{Kind}
-use Rattle.gix_hash_core.specs.Kind.{id_len}
-use Rattle.gix_hash_core.proofs.DigestLemmas.{digest_is_sized}
 use Rattle.graph_format.specs.Layer.{Layer, record_at}
 use Rattle.gix_commitgraph.specs.Graph.{graph_ids, total}
 use Rattle.gix_commitgraph.proofs.layers.GraphLemmas.{counted}
 use Rattle.commit_objects.specs.CommitContents.{Said, Says}
-use Rattle.commit_objects.specs.Object.{object_id_of, object_of}
+use Rattle.commit_objects.specs.Object.{object_id_of}
 use Rattle.commit_objects.specs.Time.{IsTime}
 use Rattle.commit_objects.proofs.ParentLemmas.{says_one}
 use Rattle.object_stream.specs.BatchEntry.{line_of_commit, commit_entry, BeginsWithEntry}
@@ -22,28 +17,8 @@ use Rattle.graph_objects.specs.Matching.{MatchesAt, recorded_parents, each_known
 use Rattle.graph_objects.specs.OneGraph.{SayTheSame, HaveTheSameCommits, HaveNoTwoContents}
 use Rattle.graph_objects.specs.Stream.{graph_id_at, entries_of, AllMatch, IsStreamOf}
 use Rattle.graph_objects.proofs.CommitLemmas.{of_layer}
-use Rattle.graph_objects.proofs.DigestLemmas.{matched, matched-id, matched-bytes, matched-short}
-use Rattle.object_stream.proofs.OnceLemmas.{line_once, entry_head, same_cut}
-
--- Bytes that begin with the entries of two ids that are as long begin with the same contents.
-entry_same : (i j c d bytes x y : List ℕ) → All (λ b. b < 256) i → All (λ b. b < 256) j → length i ≤ 32 → length j ≤ 32
-    → length i ≡ length j → BeginsWithEntry i bytes c x → BeginsWithEntry j bytes d y → (c ≡ d) × (x ≡ y)
-entry_same i j c d bytes x y i_bytes j_bytes i_short j_short as_long first second =
-    let one = entry_head i bytes c x i_bytes i_short first in
-    let two = entry_head j bytes d y j_bytes j_short second in
-    let line =
-    line_once bytes (line_of_commit i (length c)) (line_of_commit j (length d)) (c ++ 10 ∷ x) (d ++ 10 ∷ y) one.line
-    two.line in
-    let digits : length (encode_lower i) ≡ length (encode_lower j) =
-    omega (arith, as_long, length-encode_with lower_digits i, length-encode_with lower_digits j) in
-    let behind =
-    same_cut (encode_lower i) (encode_lower j) (codes " commit " ++ decimal (length c)) (codes " commit " ++ decimal (length d))
-    digits line.0 in
-    let size : length c ≡ length d =
-    decimal_injective (length c) (length d) one.fits two.fits
-    (append_cancel_left (codes " commit ") (decimal (length c)) (decimal (length d)) behind.1) in
-    let cut = same_cut c d (10 ∷ x) (10 ∷ y) size line.1 in
-    (cut.0, cc cut.1)
+use Rattle.graph_objects.proofs.DigestLemmas.{matched, matched-id}
+use Rattle.object_stream.proofs.OnceLemmas.{entry_once}
 
 -- the contents at a place match the commit there
 match_at : (layers : List Layer) (first : ℕ) (all : List (List ℕ)) → AllMatch layers first all → (k : ℕ) → k < length all
@@ -69,11 +44,6 @@ module _ (one other : List Layer) (kind : Kind) (one_alike : All (λ layer. laye
       let same : m.0.kind ≡ kind = of_layer (λ layer. layer.kind ≡ kind) layers p m.1 m.0 alike m.2 in
       matched-id layers p bytes matches ∙ ap (λ k. object_id_of k bytes) same
 
-  length_of : (layers : List Layer) → All (λ layer. layer.kind ≡ kind) layers → (p : ℕ) (bytes : List ℕ)
-      → MatchesAt layers p bytes → length (graph_id_at layers p) ≡ id_len kind
-  length_of layers alike p bytes matches =
-      ap length (id_of layers alike p bytes matches) ∙ digest_is_sized kind (object_of bytes)
-
   same_contents : (p : ℕ) (cs ds : List (List ℕ)) → AllMatch one p cs → AllMatch other p ds
       → entries_of one p cs ≡ entries_of other p ds → cs ≡ ds
   same_contents p [] [] matched_one matched_other same = refl
@@ -92,16 +62,16 @@ module _ (one other : List Layer) (kind : Kind) (one_alike : All (λ layer. laye
         length-append (line_of_commit (graph_id_at one p) (length c)) (10 ∷ (c ++ 10 ∷ [])),
       ))
   same_contents p (c ∷ cs) (d ∷ ds) matched_one matched_other same =
-      let i = graph_id_at one p in
-      let j = graph_id_at other p in
       let matches = matched_one.0.0 in
       let also = matched_other.0.0 in
-      let parts =
-      entry_same i j c d (entries_of one p (c ∷ cs)) (entries_of one (p + 1) cs) (entries_of other (p + 1) ds)
-      (matched-bytes one p c matches) (matched-bytes other p d also) (matched-short one p c matches)
-      (matched-short other p d also)
-      (length_of one one_alike p c matches ∙ sym (length_of other other_alike p d also))
-      (record { whole = refl; fits = matched_one.0.1 }) (record { whole = same; fits = matched_other.0.1 }) in
+      let bytes = entries_of one p (c ∷ cs) in
+      let first : BeginsWithEntry (object_id_of kind c) bytes c (entries_of one (p + 1) cs) =
+      subst (λ id. BeginsWithEntry id bytes c (entries_of one (p + 1) cs)) (id_of one one_alike p c matches)
+      (record { whole = refl; fits = matched_one.0.1 }) in
+      let second : BeginsWithEntry (object_id_of kind d) bytes d (entries_of other (p + 1) ds) =
+      subst (λ id. BeginsWithEntry id bytes d (entries_of other (p + 1) ds)) (id_of other other_alike p d also)
+      (record { whole = same; fits = matched_other.0.1 }) in
+      let parts = entry_once kind bytes c d (entries_of one (p + 1) cs) (entries_of other (p + 1) ds) first second in
       let rest = same_contents (p + 1) cs ds matched_one.1 matched_other.1 parts.1 in
       cc (parts.0, rest)
 

@@ -47,11 +47,7 @@ fn chain_dir_in<T: Folder>(alloc: Global, folder: &mut T, path: &str) -> Result<
     opening::open_chain_dir_in(alloc, folder, path)
 }
 
-fn read_chain<T: Folder>(
-    alloc: Global,
-    folder: &mut T,
-    path: &str,
-) -> Result<Vec<u8>, OpenError> {
+fn read_chain<T: Folder>(alloc: Global, folder: &mut T, path: &str) -> Result<Vec<u8>, OpenError> {
     opening::read_chain(alloc, folder, path)
 }
 
