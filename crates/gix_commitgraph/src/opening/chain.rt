@@ -97,14 +97,14 @@ pub fn read_chain<T: Folder>(
     read_file(alloc, folder, chain.as_str())
 }
 
-/// The layers that these lines of a chain name, in order. Those below them count the lines that
-/// came before.
-///
-/// Each path is read once: lines that name the same file share one layer.
+/// The layers that these lines of a chain name, in order, above those that earlier lines name. A
+/// file that several of these lines name is read once, and their layers share all that is kept.
 ///
 /// # Errors
 ///
-/// Of the first line that has one: `ChainNotText`, and those of opening its file as a layer.
+/// For each line in turn `ChainNotText`, `NotOpened`, `Device` and `Layer`, as in
+/// [`open_chain_dir_in`]. Lines are counted from the lowest layer below. `OutOfMemory` comes where
+/// an allocation failed.
 pub fn open_lines<T: Folder>(
     alloc: Global,
     folder: &mut T,
