@@ -1,0 +1,5 @@
+pub mod SideLemmas
+pub mod StepLemmas
+pub mod PairLemmas
+pub mod EarlierLemmas
+pub mod NextLemmas
