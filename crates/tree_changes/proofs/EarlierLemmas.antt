@@ -61,11 +61,11 @@ key_before name false e x y h k none before =
     (leaf_before (name ++ []) (key_of e) y before)
 
 -- A text begins with the key of one of these entries.
-record HasKey (entries : List TreeEntry) (key : List ℕ) : Type 0 where
-  entry : TreeEntry
-  among : Contains entries entry
-  rest : List ℕ
-  whole : key ≡ key_of entry ++ rest
+pub record HasKey (entries : List TreeEntry) (key : List ℕ) : Type 0 where
+  pub entry : TreeEntry
+  pub among : Contains entries entry
+  pub rest : List ℕ
+  pub whole : key ≡ key_of entry ++ rest
 
 first_has : (e : TreeEntry) (entries : List TreeEntry) → Contains (e ∷ entries) e
 first_has e entries = Contains-append_left (e ∷ []) entries e (Contains-push [] e)
@@ -112,7 +112,7 @@ nothing_below world d (m ∷ ds) n = nothing_below world d ds n
 regroup : (a b c d : List ℕ) → ((a ++ b) ++ c) ++ d ≡ a ++ (b ++ (c ++ d))
 regroup a b c d = simp append_assoc
 
-at_key : (world : World) (d : Bool) (entries : List TreeEntry) (ds : List (List ℕ)) (n : List ℕ) (x : Item)
+pub at_key : (world : World) (d : Bool) (entries : List TreeEntry) (ds : List (List ℕ)) (n : List ℕ) (x : Item)
     → item_at world d entries ds n ≡ Some x → HasKey entries (slashed ds ++ (n ++ end_if d))
 at_key world d entries [] n x h = named_key d n entries x h
 at_key world d entries (m ∷ ds) n x h =
@@ -136,7 +136,7 @@ at_key world d entries (m ∷ ds) n x h =
 
 -- The text of what differs at a pair begins with the name, and a leaf's ends with it.
 record HereKey (name : List ℕ) (directory : Bool) (key : List ℕ) : Type 0 where
-  rest : List ℕ
+  pub rest : List ℕ
   none : directory ≡ false → rest ≡ []
   whole : key ≡ (name ++ end_if directory) ++ rest
 

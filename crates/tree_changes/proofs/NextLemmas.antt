@@ -20,9 +20,9 @@ pub record IsPast (kind : Kind) (olds news : List TreeEntry) (old_bytes new_byte
   pub new_order : AreInOrder news_rest
   pub same : (world : World) (c : Change) → IsChange world olds news c ↔ IsChange world olds_rest news_rest c
 
-pub past_none : (kind : Kind) (olds news : List TreeEntry) (old new : List ℕ) → AreEntriesAnd kind old olds []
+pub past_none : (kind : Kind) (old new : List ℕ) (olds news : List TreeEntry) → AreEntriesAnd kind old olds []
     → AreEntriesAnd kind new news [] → AreInOrder olds → AreInOrder news → IsPast kind olds news old new
-past_none kind olds news old new a b r s = record {
+past_none kind old new olds news a b r s = record {
   olds_rest = olds;
   news_rest = news;
   old_entries = a;

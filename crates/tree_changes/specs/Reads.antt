@@ -5,7 +5,7 @@ use Rattle.tree_objects.specs.Tree.{TreeEntry, IsTree}
 use Rattle.tree_changes.specs.Stands.{World, entries_of}
 use Rattle.tree_changes.specs.Changes.{one_if_some, IsDeeper, IsMuch, IsNeeded}
 use Rattle.tree_changes.specs.Walk.{Change, IsFoundSoFar, leaf_texts}
-use Rattle.tree_changes.specs.declared.level.Level.{Level}
+use Rattle.tree_changes.specs.declared.trees.Level.{Level}
 use Rattle.tree_changes.specs.declared.changes.Refusal.{Refusal}
 use Rattle.tree_changes.specs.declared.changes.Refusal.TheVariants.{TooMany, TooDeep, TooMuch, Source, OutOfMemory}
 

@@ -11,7 +11,7 @@ use Rattle.tree_objects.specs.Tree.{TreeEntry, AreEntriesAnd, IsName, key_of}
 use Rattle.tree_objects.specs.Tree.{IsRising as AreInOrder}
 use Rattle.tree_changes.specs.Stands.{World, Item, item_of, item_at, id_of, entries_of, is_directory, slashed}
 use Rattle.tree_changes.specs.Changes.{one_if_some}
-use Rattle.tree_changes.specs.declared.level.Level.{Level}
+use Rattle.tree_changes.specs.declared.trees.Level.{Level}
 
 -- What differs at a path: directories there, or what is none, before and after.
 pub record Change : Type 0 where
@@ -61,6 +61,10 @@ pub record IsBelow (world : World) (old new : Option TreeEntry) (name : List ℕ
 abbrev pub IsHere : World → Option TreeEntry → Option TreeEntry → List ℕ → Bool → Change → Type 0
 IsHere world old new name directory c = IsItself old new name directory c ⊎ IsBelow world old new name directory c
 
+-- bytes end with these
+abbrev pub IsEnd : List ℕ → List ℕ → Type 0
+IsEnd bytes end = (front : List ℕ) × (bytes ≡ front ++ end)
+
 -- One side of a pair: its entries are the first, where it is of the name, and others, all behind the name.
 pub record IsSide (kind : Kind) (entries : List TreeEntry) (first : Option TreeEntry) (bytes name : List ℕ) (directory : Bool) : Type 0 where
   pub rest : List TreeEntry
@@ -108,12 +112,11 @@ AreSorted world (p ∷ ps) =
 
 -- A level has what is left of two trees; the path begins with the directories that lead to it.
 pub record IsLevel (kind : Kind) (path : List ℕ) (level : Level) (p : Pending) : Type 0 where
-  pub old_at : level.old_at ≤ length level.old.items
-  pub new_at : level.new_at ≤ length level.new.items
   pub old_entries : AreEntriesAnd kind (drop level.old_at level.old.items) p.olds []
   pub new_entries : AreEntriesAnd kind (drop level.new_at level.new.items) p.news []
   pub old_order : AreInOrder p.olds
   pub new_order : AreInOrder p.news
+  pub fits : level.prefix ≤ length path
   pub prefix : take level.prefix path ≡ slashed p.directories
   pub named : All IsName p.directories
 

@@ -1,6 +1,6 @@
 //! The paths that change from one tree to another.
 
-ghost use Rattle.std.specs.Prelude.{◌≡◌, ℕ, List, OnOk, OnErr, MatchResult, map, option_map};
+ghost use Rattle.std.specs.Prelude.{◌≡◌, ℕ, List, IfOk, IfErr, Some, map, option_map};
 ghost use Rattle.gix_hash_core.specs.Oid.{oid_bytes};
 ghost use Rattle.tree_changes.specs.Stands.{World};
 ghost use Rattle.tree_changes.specs.Changes.{AreChanged, IsRefusal};
@@ -37,7 +37,9 @@ pub enum Refusal<E> {
 }
 
 impl<E> From<AllocError> for Refusal<E> {
-    ghost from_gives = { λ _ refusal. refusal ≡ Refusal.OutOfMemory };
+    ghost use Rattle.tree_changes.specs.declared.changes.Refusal.TheVariants.{OutOfMemory};
+
+    ghost from_gives = { λ _ refusal. refusal ≡ OutOfMemory };
 
     fn from(_: AllocError) -> Refusal<E> {
         Refusal::OutOfMemory
@@ -65,10 +67,10 @@ pub fn changed_paths<S: TreeSource>(
 ) -> Result<Vec<Vec<u8>>, Refusal<S::Error>>
     ensures kind { S.kind_is source.new ≡ S.kind_is source.old }
     ensures kept { (world : World) → S.says source.new world → S.says source.old world }
-    ensures changed { OnOk result (λ paths. (world : World) → S.says source.new world
+    ensures changed { IfOk result (λ paths. (world : World) → S.says source.new world
         → AreChanged world (option_map oid_bytes old.entry) (Some (oid_bytes new.entry))
             (map (λ path. path.items) paths.items)) }
-    ensures refused { OnErr result (λ refusal. (world : World) → S.says source.new world
+    ensures refused { IfErr result (λ refusal. (world : World) → S.says source.new world
         → IsRefusal (S.has_refused source.new) limits.paths limits.names limits.trees world
             (option_map oid_bytes old.entry) (Some (oid_bytes new.entry)) refusal) }
 {

@@ -1,28 +1,17 @@
 //! The entries of two trees, side by side.
 
-ghost use Rattle.std.specs.Prelude.{◌≡◌, ◌≢◌, ◌<◌, ◌≤◌, ◌+◌, ◌↔◌, ℕ, List, [], MatchOption, IfSome};
+ghost use Rattle.std.specs.Prelude.{◌≡◌, ◌≢◌, ◌<◌, ◌+◌, ◌↔◌, ℕ, List, [], MatchOption, IfSome};
 ghost use Rattle.std.specs.Prelude.{IsTrue, length, option_map};
 ghost use Rattle.tree_objects.specs.Entry.{entry_of};
 ghost use Rattle.tree_objects.specs.Tree.{TreeEntry, AreEntriesAnd};
 ghost use Rattle.tree_objects.specs.Tree.{IsRising as AreInOrder};
 ghost use Rattle.tree_changes.specs.Stands.{World, item_of, is_directory};
-ghost use Rattle.tree_changes.specs.Walk.{Change, IsChange, IsSide, IsNext};
+ghost use Rattle.tree_changes.specs.Walk.{Change, IsChange, IsSide, IsNext, IsEnd};
 ghost use Rattle.tree_objects.specs.Tree.{IsName};
 
 use gix_hash_core::Kind;
 use std::cmp::Ordering;
 use tree_objects::{Entry, EntryKind, order, split_entry};
-
-/// Two trees side by side, and where the entries begin that are left of each.
-#[derive(Drop)]
-pub(crate) struct Level {
-    pub(crate) old: Vec<u8>,
-    pub(crate) new: Vec<u8>,
-    pub(crate) old_at: usize,
-    pub(crate) new_at: usize,
-    /// How many bytes of the path lead to these trees.
-    pub(crate) prefix: usize,
-}
 
 /// What stands at one name in two trees, directories or what is none, and what follows it.
 #[derive(Clone, Copy)]
@@ -42,8 +31,10 @@ pub(crate) fn next_difference<'a>(kind: Kind, old: &'a [u8], new: &'a [u8]) -> O
         → MatchOption result ((world : World) (c : Change) → ¬ IsChange world olds news c)
             (λ p. IsNext kind olds news (option_map entry_of p.old) (option_map entry_of p.new)
                 p.old_rest.now p.new_rest.now p.name.now p.directory) }
-    ensures old_shorter { IfSome result (λ p. length p.old_rest.now ≤ length old.now) }
-    ensures new_shorter { IfSome result (λ p. length p.new_rest.now ≤ length new.now) }
+    ensures old_end { IfSome result (λ p. IsEnd old.now p.old_rest.now) }
+    ensures new_end { IfSome result (λ p. IsEnd new.now p.new_rest.now) }
+    ensures differ { IfSome result (λ p. option_map item_of (option_map entry_of p.old)
+        ≢ option_map item_of (option_map entry_of p.new)) }
 {
     let mut old_rest = old;
     let mut new_rest = new;
@@ -67,8 +58,8 @@ fn next_pair<'a>(kind: Kind, old: &'a [u8], new: &'a [u8]) -> Option<Pair<'a>>
                 × IsName p.name.now) }
     ensures shorter { IfSome result (λ p. length p.old_rest.now + length p.new_rest.now
         < length old.now + length new.now) }
-    ensures old_shorter { IfSome result (λ p. length p.old_rest.now ≤ length old.now) }
-    ensures new_shorter { IfSome result (λ p. length p.new_rest.now ≤ length new.now) }
+    ensures old_end { IfSome result (λ p. IsEnd old.now p.old_rest.now) }
+    ensures new_end { IfSome result (λ p. IsEnd new.now p.new_rest.now) }
 {
     let Some(a) = split_entry(kind, old) else {
         let Some(b) = split_entry(kind, new) else {

@@ -7,6 +7,7 @@
 mod changes;
 mod level;
 mod source;
+mod trees;
 mod walk;
 
 pub use changes::{Limits, Refusal, changed_paths};

@@ -1,6 +1,6 @@
 //! Where trees come from.
 
-ghost use Rattle.std.specs.Prelude.{◌≡◌, ℕ, List, OnOk, OnErr, Some};
+ghost use Rattle.std.specs.Prelude.{◌≡◌, ℕ, List, OnOk, IfErr, Some};
 ghost use Rattle.gix_hash_core.specs.declared.kind.Kind.{Kind as HashKind};
 ghost use Rattle.tree_objects.specs.Tree.{TreeEntry, IsTree};
 ghost use Rattle.tree_changes.specs.Stands.{World};
@@ -39,5 +39,5 @@ pub trait TreeSource {
         ensures tree { OnOk result ((entries : List TreeEntry)
             × IsTree (kind_is self.old) contents.new.items entries
             × ((world : World) → says self.new world → world id.now ≡ Some entries)) }
-        ensures refused { OnErr result (λ error. has_refused self.new id.now error) };
+        ensures refused { IfErr result (λ error. has_refused self.new id.now error) };
 }

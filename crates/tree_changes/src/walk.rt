@@ -1,19 +1,19 @@
 //! Going through two trees.
 
-ghost use Rattle.std.specs.Prelude.{◌≡◌, ◌++◌, ◌∷◌, ◌<◌, ◌+◌, ◌*◌, ℕ, List, [], OnOk, OnErr, IfOk, Option, Some};
-ghost use Rattle.std.specs.Prelude.{option_map, true, false, if◌then◌else◌};
+ghost use Rattle.std.specs.Prelude.{◌≡◌, ◌+◌, ℕ, List, [], IfOk, IfErr, MatchOption, Option, Some};
+ghost use Rattle.std.specs.Prelude.{option_map};
 ghost use Rattle.gix_hash_core.specs.Oid.{oid_bytes};
 ghost use Rattle.tree_objects.specs.Entry.{entry_of};
-ghost use Rattle.tree_objects.specs.Tree.{TreeEntry, IsTree};
-ghost use Rattle.tree_changes.specs.Stands.{World, item_of, id_of, entries_of};
+ghost use Rattle.tree_changes.specs.Stands.{World, item_of, id_of};
 ghost use Rattle.tree_changes.specs.Changes.{one_if_some};
 ghost use Rattle.tree_changes.specs.Walk.{Change, IsFoundSoFar};
 ghost use Rattle.tree_changes.specs.Reads.{IsReadTree, IsTreeReadRefusal, IsReadLevel, IsReadRefusal};
 ghost use Rattle.tree_changes.specs.Reads.{IsFoundThen, IsStopped};
 
 use crate::changes::{Limits, Refusal};
-use crate::level::{Level, Pair, next_difference};
+use crate::level::next_difference;
 use crate::source::TreeSource;
+use crate::trees::Level;
 use gix_hash_core::oid;
 use std::alloc::{AllocError, Global};
 use tree_objects::Entry;
@@ -42,10 +42,20 @@ impl Walk {
     ) -> Result<Option<Walk>, Refusal<S::Error>>
         ensures kind { S.kind_is source.new ≡ S.kind_is source.old }
         ensures kept { (world : World) → S.says source.new world → S.says source.old world }
+        ensures found { IfOk result (λ found. MatchOption found
+            (option_map oid_bytes old.entry ≡ Some (oid_bytes new.entry))
+            (λ walk. IsFoundSoFar (S.kind_is source.old) (S.says source.new)
+                (option_map oid_bytes old.entry) (Some (oid_bytes new.entry)) limits.trees []
+                walk.path.items walk.levels.items walk.trees × (walk.names ≡ limits.names))) }
+        ensures refused { IfErr result (λ refusal. (world : World) → S.says source.new world
+            → IsStopped (S.has_refused source.new) limits.names limits.trees world
+                (option_map oid_bytes old.entry) (Some (oid_bytes new.entry)) refusal) }
     {
-        let old = old.map(|id| id.as_bytes());
+        let old = bytes_of(old);
         let new = new.as_bytes();
-        if old == Some(new) {
+        if let Some(old) = old
+            && old == new
+        {
             return Ok(None);
         }
         let mut trees = limits.trees;
@@ -75,31 +85,30 @@ impl Walk {
     ) -> Result<bool, Refusal<S::Error>>
         ensures kind { S.kind_is source.new ≡ S.kind_is source.old }
         ensures kept { (world : World) → S.says source.new world → S.says source.old world }
-        ensures found { OnOk result (λ more. (old new : Option (List ℕ)) (budget : ℕ) (found : List Change)
+        ensures names { self.new.names ≡ self.old.names }
+        ensures found { IfOk result (λ more. (old new : Option (List ℕ)) (budget : ℕ) (found : List Change)
             → IsFoundSoFar (S.kind_is source.old) (S.says source.old) old new budget found
                 self.old.path.items self.old.levels.items self.old.trees
             → IsFoundThen (S.kind_is source.old) (S.says source.new) old new budget found more
                 self.new.path.items self.new.levels.items self.new.trees) }
-        ensures refused { OnErr result (λ refusal. (old new : Option (List ℕ)) (budget : ℕ) (found : List Change)
+        ensures refused { IfErr result (λ refusal. (old new : Option (List ℕ)) (budget : ℕ) (found : List Change)
             → IsFoundSoFar (S.kind_is source.old) (S.says source.old) old new budget found
                 self.old.path.items self.old.levels.items self.old.trees
             → (world : World) → S.says source.new world
             → IsStopped (S.has_refused source.new) self.old.names budget world old new refusal) }
     {
         let kind = source.kind();
-        while let Some(mut level) = self.levels.pop() {
+        while let Some(level) = self.levels.pop() {
             let old = &level.old[level.old_at..];
             let new = &level.new[level.new_at..];
             let Some(pair) = next_difference(kind, old, new) else {
                 continue;
             };
-            let old_at = level.old.len() - pair.old_rest.len();
-            let new_at = level.new.len() - pair.new_rest.len();
+            let (old_left, new_left) = (pair.old_rest.len(), pair.new_rest.len());
             self.path.truncate(level.prefix);
             self.path.extend_from_slice(pair.name)?;
             if !pair.directory {
-                level.old_at = old_at;
-                level.new_at = new_at;
+                let level = level.with_left(old_left, new_left);
                 self.levels.push(level).map_err(AllocError::from)?;
                 return Ok(true);
             }
@@ -109,13 +118,26 @@ impl Walk {
             self.path.extend_from_slice(b"/")?;
             let prefix = self.path.len();
             let trees = &mut self.trees;
-            let below = read_level(alloc, source, id_in(pair.old), id_in(pair.new), prefix, trees)?;
-            level.old_at = old_at;
-            level.new_at = new_at;
+            let (old, new) = (id_in(pair.old), id_in(pair.new));
+            let below = match read_level(alloc, source, old, new, prefix, trees) {
+                Ok(below) => below,
+                Err(refusal) => return Err(refusal),
+            };
+            let level = level.with_left(old_left, new_left);
             self.levels.push(level).map_err(AllocError::from)?;
             self.levels.push(below).map_err(AllocError::from)?;
         }
         Ok(false)
+    }
+}
+
+/// The bytes of an id, where there is one.
+fn bytes_of(id: Option<oid<'_>>) -> Option<&[u8]>
+    ensures { option_map (λ bytes. bytes.now) result ≡ option_map oid_bytes id.entry }
+{
+    match id {
+        Some(id) => Some(id.as_bytes()),
+        None => None,
     }
 }
 
@@ -141,11 +163,11 @@ fn read_level<S: TreeSource>(
 ) -> Result<Level, Refusal<S::Error>>
     ensures kind { S.kind_is source.new ≡ S.kind_is source.old }
     ensures kept { (world : World) → S.says source.new world → S.says source.old world }
-    ensures trees { OnOk result (λ _. trees.new + one_if_some old + one_if_some new ≡ trees.old) }
-    ensures read { OnOk result (λ level. IsReadLevel (S.kind_is source.old) (S.says source.new)
-        (option_map (λ id. id.now) old) (option_map (λ id. id.now) new) prefix level) }
-    ensures refused { OnErr result (IsReadRefusal (S.has_refused source.new)
-        (option_map (λ id. id.now) old) (option_map (λ id. id.now) new) trees.old) }
+    ensures trees { IfOk result (λ _. trees.new + one_if_some old.entry + one_if_some new.entry ≡ trees.old) }
+    ensures read { IfOk result (λ level. IsReadLevel (S.kind_is source.old) (S.says source.new)
+        (option_map (λ id. id.now) old.entry) (option_map (λ id. id.now) new.entry) prefix level) }
+    ensures refused { IfErr result (IsReadRefusal (S.has_refused source.new)
+        (option_map (λ id. id.now) old.entry) (option_map (λ id. id.now) new.entry) trees.old) }
 {
     let old_tree = read_tree(alloc, source, old, trees)?;
     let new_tree = read_tree(alloc, source, new, trees)?;
@@ -167,11 +189,11 @@ fn read_tree<S: TreeSource>(
 ) -> Result<Vec<u8>, Refusal<S::Error>>
     ensures kind { S.kind_is source.new ≡ S.kind_is source.old }
     ensures kept { (world : World) → S.says source.new world → S.says source.old world }
-    ensures trees { OnOk result (λ _. trees.new + one_if_some id ≡ trees.old) }
-    ensures tree { OnOk result (λ contents. IsReadTree (S.kind_is source.old) (S.says source.new)
-        (option_map (λ i. i.now) id) contents.items) }
-    ensures refused { OnErr result (IsTreeReadRefusal (S.has_refused source.new)
-        (option_map (λ i. i.now) id) trees.old) }
+    ensures trees { IfOk result (λ _. trees.new + one_if_some id.entry ≡ trees.old) }
+    ensures tree { IfOk result (λ contents. IsReadTree (S.kind_is source.old) (S.says source.new)
+        (option_map (λ i. i.now) id.entry) contents.items) }
+    ensures refused { IfErr result (IsTreeReadRefusal (S.has_refused source.new)
+        (option_map (λ i. i.now) id.entry) trees.old) }
 {
     let mut contents = Vec::new(alloc);
     let Some(id) = id else {
