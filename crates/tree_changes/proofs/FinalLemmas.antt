@@ -1,5 +1,5 @@
 -- what was found, as texts
-use Rattle.std.proofs.Common.{◌≡◌, ◌≢◌, ℕ, ◌+◌, ◌<◌, Bool, true, false, cond, List, [], ◌∷◌, ◌++◌, Option, Some, None, length, length-append, refl, sym, ap, ◌∙◌, subst, ◌⊎◌, inl, inr, append-nil, arith}
+use Rattle.std.proofs.Common.{◌≡◌, ◌≢◌, ℕ, ◌+◌, ◌<◌, ◌≤◌, Bool, true, false, cond, List, [], ◌∷◌, ◌++◌, Option, Some, None, length, length-append, refl, sym, ap, ◌∙◌, subst, ◌⊎◌, inl, inr, append-nil, arith}
 use Rattle.std.specs.Prelude.{All, Contains}
 use Rattle.std.specs.Ordering.{nat_cmp}
 use Rattle.std.specs.declared.cmp.Ordering.TheVariants.{Less}
@@ -7,8 +7,14 @@ use Rattle.std.specs.Cmp.Lexicographic.{slice_cmp}
 use Rattle.std.proofs.lemmas.List.Elements.{All-nil, All-cons, All-head, All-tail, All-weaker, All-contains, Contains-append_right, Contains-append_left, Contains-push}
 use Rattle.tree_objects.specs.Tree.{IsName}
 use Rattle.tree_changes.specs.Stands.{World, TreePath, entries_of, slashed, joined, stands, IsChanged}
-use Rattle.tree_changes.specs.Changes.{IsRising, IsChangedText, AreChanged, AreMore}
-use Rattle.tree_changes.specs.Walk.{Change, IsChange, IsEarlier, change_key, end_if, leaf_texts, AreRisingChanges, HasNames, IsLeft, IsFoundIn, Pending}
+use Rattle.gix_hash_core.specs.declared.kind.Kind.{Kind}
+use Rattle.tree_changes.specs.Changes.{IsRising, IsChangedText, AreChanged, AreMore, IsRefusal}
+use Rattle.tree_changes.specs.Reads.{IsFoundThen, IsStopped}
+use Rattle.tree_changes.specs.declared.trees.Level.{Level}
+use Rattle.tree_changes.specs.declared.changes.Refusal.{Refusal}
+use Rattle.tree_changes.specs.declared.changes.Refusal.TheVariants.{TooMany, TooDeep, TooMuch, Source, OutOfMemory}
+use Rattle.tree_changes.proofs.LevelLemmas.{none_left}
+use Rattle.tree_changes.specs.Walk.{Change, IsChange, IsEarlier, change_key, end_if, leaf_texts, AreRisingChanges, HasNames, IsLeft, IsFoundIn, IsFoundSoFar, AreLevels, Pending}
 
 abbrev text_of : Change → List ℕ
 text_of c = slashed c.directories ++ c.name
@@ -116,3 +122,44 @@ module _ (world : World) (old new : Option (List ℕ)) where
     each = each_text found h.each named;
     more = more;
   }
+
+-- a step to the next path, by another name of the kind
+pub by_kind : (kind kind' : Kind) (says says' : World → Type 0) (old new : Option (List ℕ)) (budget : ℕ) (found : List Change)
+    (path path' : List ℕ) (levels levels' : List Level) (trees trees' : ℕ) (more : Bool) → kind' ≡ kind
+    → IsFoundSoFar kind says old new budget found path levels trees
+    → ((old new : Option (List ℕ)) (budget : ℕ) (found : List Change)
+      → IsFoundSoFar kind' says old new budget found path levels trees
+      → IsFoundThen kind' says' old new budget found more path' levels' trees')
+    → IsFoundThen kind says' old new budget found more path' levels' trees'
+by_kind kind kind' says says' old new budget found path path' levels levels' trees trees' more e h step =
+    subst (λ k. IsFoundThen k says' old new budget found more path' levels' trees') e
+    (step old new budget found (subst (λ k. IsFoundSoFar k says old new budget found path levels trees) (sym e) h))
+
+-- all was found
+pub all_found : (kind : Kind) (says : World → Type 0) (old new : Option (List ℕ)) (budget : ℕ) (found : List Change)
+    (more : Bool) (path : List ℕ) (levels : List Level) (trees : ℕ) (texts : List (List ℕ))
+    → IsFoundThen kind says old new budget found more path levels trees → more ≡ false → leaf_texts found ≡ texts
+    → (world : World) → says world → AreChanged world old new texts
+all_found kind says old new budget found more path levels trees texts h e same world w =
+    let all = h.texts_all e in
+    subst (AreChanged world old new) (all.0 ∙ same)
+    (are_changed world old new h.found_then h.so_far.left (h.so_far.agreed world w) h.so_far.named
+      (none_left kind path h.so_far.left (subst (λ t. AreLevels kind path t h.so_far.left) all.1 h.so_far.levels_are)))
+
+-- one path more than may be was found
+pub too_many : (kind : Kind) (says : World → Type 0) (old new : Option (List ℕ)) (budget : ℕ) (found : List Change)
+    (more : Bool) (path : List ℕ) (levels : List Level) (trees : ℕ) (texts : List (List ℕ)) (most : ℕ)
+    → IsFoundThen kind says old new budget found more path levels trees → more ≡ true → leaf_texts found ≡ texts
+    → most ≤ length texts → (world : World) → says world → AreMore world old new most
+too_many kind says old new budget found more path levels trees texts most h e same full world w =
+    are_more world old new h.found_then h.so_far.left most (h.so_far.agreed world w) h.so_far.named
+    (omega (arith, full, ap length (h.texts_more e), length-append (leaf_texts found) (path ∷ []), ap length same))
+
+pub stopped : {E : Type 0} (refused : List ℕ → E → Type 0) (paths names trees : ℕ) (world : World) (old new : Option (List ℕ))
+    (refusal : Refusal E) → IsStopped refused names trees world old new refusal
+    → IsRefusal refused paths names trees world old new refusal
+stopped refused paths names trees world old new TooMany h = absurd h
+stopped refused paths names trees world old new TooDeep h = h
+stopped refused paths names trees world old new TooMuch h = h
+stopped refused paths names trees world old new (Source error) h = h
+stopped refused paths names trees world old new OutOfMemory h = tt

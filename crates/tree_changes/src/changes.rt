@@ -78,12 +78,17 @@ pub fn changed_paths<S: TreeSource>(
     let Some(mut walk) = Walk::begin(alloc, source, old, new, limits)? else {
         return Ok(found);
     };
-    while walk.next(alloc, source)? {
+    loop {
+        match walk.next(alloc, source) {
+            Ok(true) => {}
+            Ok(false) => return Ok(found),
+            Err(refusal) => return Err(refusal),
+        }
         if found.len() >= limits.paths {
             return Err(Refusal::TooMany);
         }
-        let path = walk.path().to_vec(alloc)?;
+        let mut path = Vec::new(alloc);
+        path.extend_from_slice(walk.path())?;
         found.push(path).map_err(AllocError::from)?;
     }
-    Ok(found)
 }

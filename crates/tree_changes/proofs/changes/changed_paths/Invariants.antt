@@ -4,8 +4,8 @@ use Rattle.tree_changes.specs.Stands.{World}
 use Rattle.tree_changes.specs.Walk.{Change, IsFoundSoFar, leaf_texts}
 use Rattle.tree_changes.proofs.changes.changed_paths.Given as goal
 
-abbrev pub invariant-loop-walk : goal.invariant-loop-walk
-invariant-loop-walk g l =
+abbrev pub invariant-loop-found : goal.invariant-loop-found
+invariant-loop-found g l =
     let says = g.S.TreeSource.says in
     let k = g.S.TreeSource.kind_is l.fn.source in
     record {
@@ -18,5 +18,5 @@ invariant-loop-walk g l =
       texts : leaf_texts done ≡ map (λ path. path.items) l.found.items
     }
 
-abbrev pub decreases-loop-walk : goal.decreases-loop-walk
-decreases-loop-walk g l = l.limits.paths - length l.found.items
+abbrev pub decreases-loop-found : goal.decreases-loop-found
+decreases-loop-found g l = l.limits.paths - length l.found.items
