@@ -1,16 +1,19 @@
 -- what differs at a pair comes before what differs behind it
-use Rattle.std.proofs.Common.{◌≡◌, ◌≢◌, ℕ, Bool, true, false, not, cond, List, [], ◌∷◌, ◌++◌, Option, Some, None, refl, sym, ap, ◌∙◌, subst, ◌⊎◌, inl, inr, append-nil, append_assoc}
-use Rattle.std.specs.Prelude.{All, Contains, option_map}
+use Rattle.std.proofs.Common.{◌≡◌, ◌≢◌, ℕ, Bool, true, false, cond, List, [], ◌∷◌, ◌++◌, Option, Some, None, refl, sym, ap, ◌∙◌}
+use Rattle.std.proofs.Common.{subst, inl, inr, append-nil, append_assoc}
+use Rattle.std.specs.Prelude.{All, Contains}
 use Rattle.std.specs.Ordering.{nat_cmp, ordering_then}
 use Rattle.std.specs.declared.cmp.Ordering.{Ordering}
 use Rattle.std.specs.declared.cmp.Ordering.TheVariants.{Less, Equal, Greater}
 use Rattle.std.specs.Cmp.Lexicographic.{slice_cmp}
 use Rattle.std.specs.FinMap.{nat_cmp-IsAntisymmetric}
-use Rattle.std.proofs.lemmas.List.Elements.{All-nil, All-cons, All-head, All-tail, All-contains, Contains-append_left, Contains-append_right, Contains-push}
+use Rattle.std.proofs.lemmas.List.Elements.{All-nil, All-cons, All-head, All-tail, All-contains, Contains-append_left}
+use Rattle.std.proofs.lemmas.List.Elements.{Contains-append_right, Contains-push}
 use Rattle.gix_hash_core.specs.declared.kind.Kind.{Kind}
 use Rattle.tree_objects.specs.Tree.{TreeEntry, AreEntriesAnd, IsName, key_of}
-use Rattle.tree_changes.specs.Stands.{World, Item, item_of, item_named, item_at, id_of, entries_of, is_directory, is_named, slashed}
-use Rattle.tree_changes.specs.Walk.{Change, IsChange, IsHere, IsItself, IsBelow, IsEarlier, change_key, end_if, under}
+use Rattle.tree_changes.specs.Stands.{World, Item, item_of, item_named, item_at, id_of, entries_of, is_directory, is_named}
+use Rattle.tree_changes.specs.Stands.{slashed}
+use Rattle.tree_changes.specs.Walk.{Change, IsChange, IsHere, IsEarlier, change_key, end_if}
 use Rattle.tree_changes.proofs.SideLemmas.{key_is, named_true}
 
 then_less : (o r r' : Ordering) → (r ≡ Less → r' ≡ Less) → ordering_then o r ≡ Less → ordering_then o r' ≡ Less
@@ -54,7 +57,7 @@ key_before : (name : List ℕ) (d : Bool) (e : TreeEntry) (x y : List ℕ) → I
 key_before name true e x y h k none before =
     subst (λ t. slice_cmp nat_cmp ((name ++ 47 ∷ []) ++ x) (t ++ y) ≡ Less) (sym (key_is e))
     (directory_before name e.name (is_directory e.kind) x y h.2 k.2
-      (subst (λ t. slice_cmp nat_cmp (name ++ 47 ∷ []) t ≡ Less) (key_is e) before))
+    (subst (λ t. slice_cmp nat_cmp (name ++ 47 ∷ []) t ≡ Less) (key_is e) before))
 key_before name false e x y h k none before =
     subst (λ t. slice_cmp nat_cmp t (key_of e ++ y) ≡ Less)
     (sym (append-nil (name ++ [])) ∙ ap (λ t. (name ++ []) ++ t) (sym (none refl)))
@@ -97,8 +100,8 @@ named_key d n (e ∷ entries) x h =
             among = first_has e entries;
             rest = [];
             whole =
-            sym (append-nil (key_of e) ∙ key_is e ∙ ap (λ k. k ++ end_if (is_directory e.kind)) is.1
-              ∙ ap (λ k. n ++ end_if k) is.0);
+                sym (append-nil (key_of e) ∙ key_is e ∙ ap (λ k. k ++ end_if (is_directory e.kind)) is.1
+                ∙ ap (λ k. n ++ end_if k) is.0);
           }
       | false ↦ λ t.
           key_later e entries (n ++ end_if d)
@@ -116,7 +119,8 @@ pub at_key : (world : World) (d : Bool) (entries : List TreeEntry) (ds : List (L
     → item_at world d entries ds n ≡ Some x → HasKey entries (slashed ds ++ (n ++ end_if d))
 at_key world d entries [] n x h = named_key d n entries x h
 at_key world d entries (m ∷ ds) n x h =
-    elim (item_named true m entries) as (λ i. item_named true m entries ≡ i → HasKey entries (slashed (m ∷ ds) ++ (n ++ end_if d))) [
+    elim (item_named true m entries) as (λ i. item_named true m entries ≡ i
+    → HasKey entries (slashed (m ∷ ds) ++ (n ++ end_if d))) [
       | None ↦ λ e. absurd (
           let below : item_at world d [] ds n ≡ Some x =
           subst (λ i. item_at world d (entries_of world (id_of i)) ds n ≡ Some x) e h in
@@ -129,8 +133,8 @@ at_key world d entries (m ∷ ds) n x h =
             among = key.among;
             rest = key.rest ++ (slashed ds ++ (n ++ end_if d));
             whole =
-            ap (λ t. (t ++ slashed ds) ++ (n ++ end_if d)) key.whole
-            ∙ regroup (key_of key.entry) key.rest (slashed ds) (n ++ end_if d);
+                ap (λ t. (t ++ slashed ds) ++ (n ++ end_if d)) key.whole
+                ∙ regroup (key_of key.entry) key.rest (slashed ds) (n ++ end_if d);
           }
     ] refl
 
@@ -146,16 +150,16 @@ here_key world old new name directory c (inl h) = record {
   rest = [];
   none = λ _. refl;
   whole =
-  ap (λ t. slashed t ++ (c.name ++ end_if c.directory)) h.top ∙ ap (λ t. t ++ end_if c.directory) h.name_is
-  ∙ ap (λ t. name ++ end_if t) h.directory_is ∙ sym (append-nil (name ++ end_if directory));
+      ap (λ t. slashed t ++ (c.name ++ end_if c.directory)) h.top ∙ ap (λ t. t ++ end_if c.directory) h.name_is
+      ∙ ap (λ t. name ++ end_if t) h.directory_is ∙ sym (append-nil (name ++ end_if directory));
 }
 here_key world old new name directory c (inr h) = record {
   rest = slashed h.rest ++ (c.name ++ end_if c.directory);
   none = λ e. absurd (let f = h.directory_is in cc);
   whole =
-  ap (λ t. slashed t ++ (c.name ++ end_if c.directory)) h.directories_are
-  ∙ append_assoc (name ++ 47 ∷ []) (slashed h.rest) (c.name ++ end_if c.directory)
-  ∙ ap (λ t. (name ++ end_if t) ++ (slashed h.rest ++ (c.name ++ end_if c.directory))) (sym h.directory_is);
+      ap (λ t. slashed t ++ (c.name ++ end_if c.directory)) h.directories_are
+      ∙ append_assoc (name ++ 47 ∷ []) (slashed h.rest) (c.name ++ end_if c.directory)
+      ∙ ap (λ t. (name ++ end_if t) ++ (slashed h.rest ++ (c.name ++ end_if c.directory))) (sym h.directory_is);
 }
 
 pub names_all : (kind : Kind) (bytes : List ℕ) (entries : List TreeEntry) → AreEntriesAnd kind bytes entries []
@@ -171,9 +175,9 @@ module _ (name : List ℕ) (directory : Bool) (named : IsName name) where
   behind_has entries a b behind names h k =
       subst (λ t. slice_cmp nat_cmp t b ≡ Less) (sym h.whole)
       (subst (λ t. slice_cmp nat_cmp ((name ++ end_if directory) ++ h.rest) t ≡ Less) (sym k.whole)
-        (key_before name directory k.entry h.rest k.rest named
-          (All-contains (λ e. IsName e.name) entries k.entry names k.among) h.none
-          (All-contains (λ e. slice_cmp nat_cmp (name ++ end_if directory) (key_of e) ≡ Less) entries k.entry behind k.among)))
+      (key_before name directory k.entry h.rest k.rest named
+      (All-contains (λ e. IsName e.name) entries k.entry names k.among) h.none
+      (All-contains (λ e. slice_cmp nat_cmp (name ++ end_if directory) (key_of e) ≡ Less) entries k.entry behind k.among)))
 
   pub here_before : (world : World) (old new : Option TreeEntry) (olds news : List TreeEntry)
       → All (λ e. slice_cmp nat_cmp (name ++ end_if directory) (key_of e) ≡ Less) olds → All (λ e. IsName e.name) olds

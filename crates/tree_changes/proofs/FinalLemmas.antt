@@ -1,20 +1,22 @@
 -- what was found, as texts
-use Rattle.std.proofs.Common.{◌≡◌, ◌≢◌, ℕ, ◌+◌, ◌<◌, ◌≤◌, Bool, true, false, cond, List, [], ◌∷◌, ◌++◌, Option, Some, None, length, length-append, refl, sym, ap, ◌∙◌, subst, ◌⊎◌, inl, inr, append-nil, arith}
+use Rattle.std.proofs.Common.{◌≡◌, ℕ, ◌<◌, ◌≤◌, Bool, true, false, cond, List, [], ◌∷◌, ◌++◌, Option, length, length-append, refl}
+use Rattle.std.proofs.Common.{sym, ap, ◌∙◌, subst, inl, inr, append-nil, arith}
 use Rattle.std.specs.Prelude.{All, Contains}
 use Rattle.std.specs.Ordering.{nat_cmp}
 use Rattle.std.specs.declared.cmp.Ordering.TheVariants.{Less}
 use Rattle.std.specs.Cmp.Lexicographic.{slice_cmp}
-use Rattle.std.proofs.lemmas.List.Elements.{All-nil, All-cons, All-head, All-tail, All-weaker, All-contains, Contains-append_right, Contains-append_left, Contains-push}
-use Rattle.tree_objects.specs.Tree.{IsName}
-use Rattle.tree_changes.specs.Stands.{World, TreePath, entries_of, slashed, joined, stands, IsChanged}
+use Rattle.std.proofs.lemmas.List.Elements.{All-nil, All-cons, All-head, All-tail, All-weaker, All-contains}
+use Rattle.std.proofs.lemmas.List.Elements.{Contains-append_right, Contains-append_left, Contains-push}
+use Rattle.tree_changes.specs.Stands.{World, entries_of, slashed, stands}
 use Rattle.gix_hash_core.specs.declared.kind.Kind.{Kind}
-use Rattle.tree_changes.specs.Changes.{IsRising, IsChangedText, AreChanged, AreMore, IsRefusal}
+use Rattle.tree_changes.specs.Changes.{AreRisingTexts, IsChangedText, AreChanged, AreMore, IsRefusal}
 use Rattle.tree_changes.specs.Reads.{IsFoundThen, IsStopped}
 use Rattle.tree_changes.specs.declared.trees.Level.{Level}
 use Rattle.tree_changes.specs.declared.changes.Refusal.{Refusal}
 use Rattle.tree_changes.specs.declared.changes.Refusal.TheVariants.{TooMany, TooDeep, TooMuch, Source, OutOfMemory}
 use Rattle.tree_changes.proofs.LevelLemmas.{none_left}
-use Rattle.tree_changes.specs.Walk.{Change, IsChange, IsEarlier, change_key, end_if, leaf_texts, AreRisingChanges, HasNames, IsLeft, IsFoundIn, IsFoundSoFar, AreLevels, Pending}
+use Rattle.tree_changes.specs.Walk.{Change, IsChange, IsEarlier, change_key, end_if, leaf_texts, AreRisingChanges, HasNames}
+use Rattle.tree_changes.specs.Walk.{IsLeft, IsFoundIn, IsFoundSoFar, AreLevels, Pending}
 
 abbrev text_of : Change → List ℕ
 text_of c = slashed c.directories ++ c.name
@@ -23,7 +25,8 @@ key_is : (c : Change) → c.directory ≡ false → change_key c ≡ text_of c
 key_is c e =
     ap (λ d. slashed c.directories ++ (c.name ++ end_if d)) e ∙ ap (λ t. slashed c.directories ++ t) (append-nil c.name)
 
-all_cond : {X : Type 0} (P : X → Type 0) (d : Bool) (x : X) (xs : List X) → (d ≡ false → P x) → All P xs → All P (cond d xs (x ∷ xs))
+all_cond : {X : Type 0} (P : X → Type 0) (d : Bool) (x : X) (xs : List X) → (d ≡ false → P x) → All P xs
+    → All P (cond d xs (x ∷ xs))
 all_cond P true x xs f h = h
 all_cond P false x xs f h = All-cons P x xs (f refl) h
 
@@ -36,17 +39,17 @@ texts_later c [] e h = All-nil (IsText (text_of c))
 texts_later c (d ∷ changes) e h =
     all_cond (IsText (text_of c)) d.directory (text_of d) (leaf_texts changes)
     (λ f.
-      let P : List ℕ → Type 0 = λ t. slice_cmp nat_cmp t (text_of d) ≡ Less in
-      let Q : List ℕ → Type 0 = λ t. slice_cmp nat_cmp (change_key c) t ≡ Less in
-      subst P (key_is c e) (subst Q (key_is d f) (All-head (IsEarlier c) d changes h)))
+    let P : List ℕ → Type 0 = λ t. slice_cmp nat_cmp t (text_of d) ≡ Less in
+    let Q : List ℕ → Type 0 = λ t. slice_cmp nat_cmp (change_key c) t ≡ Less in
+    subst P (key_is c e) (subst Q (key_is d f) (All-head (IsEarlier c) d changes h)))
     (texts_later c changes e (All-tail (IsEarlier c) d changes h))
 
-rising_cond : (d : Bool) (text : List ℕ) (texts : List (List ℕ)) → (d ≡ false → All (IsText text) texts) → IsRising texts
-    → IsRising (cond d texts (text ∷ texts))
+rising_cond : (d : Bool) (text : List ℕ) (texts : List (List ℕ)) → (d ≡ false → All (IsText text) texts) → AreRisingTexts texts
+    → AreRisingTexts (cond d texts (text ∷ texts))
 rising_cond true text texts f h = h
 rising_cond false text texts f h = (f refl, h)
 
-pub texts_rise : (changes : List Change) → AreRisingChanges changes → IsRising (leaf_texts changes)
+pub texts_rise : (changes : List Change) → AreRisingChanges changes → AreRisingTexts (leaf_texts changes)
 texts_rise [] h = tt
 texts_rise (c ∷ changes) h =
     rising_cond c.directory (text_of c) (leaf_texts changes) (λ e. texts_later c changes e h.0) (texts_rise changes h.1)
@@ -68,7 +71,7 @@ have_texts [] = All-nil (HasText [])
 have_texts (c ∷ changes) =
     All-cons (HasText (leaf_texts (c ∷ changes))) c changes (head_cond c.directory (text_of c) (leaf_texts changes))
     (All-weaker (HasText (leaf_texts changes)) (HasText (leaf_texts (c ∷ changes)))
-      (λ d f e. tail_cond c.directory (text_of c) (leaf_texts changes) (text_of d) (f e)) changes (have_texts changes))
+    (λ d f e. tail_cond c.directory (text_of c) (leaf_texts changes) (text_of d) (f e)) changes (have_texts changes))
 
 module _ (world : World) (old new : Option (List ℕ)) where
   abbrev IsBetween : Change → Type 0
@@ -77,7 +80,7 @@ module _ (world : World) (old new : Option (List ℕ)) where
   changed_text : (c : Change) → IsBetween c → HasNames c → c.directory ≡ false → IsChangedText world old new (text_of c)
   changed_text c h named e =
       let P : Bool → Type 0 = λ d. IsChange world (entries_of world old) (entries_of world new)
-        (record { directory = d; directories = c.directories; name = c.name; old = c.old; new = c.new }) in
+      (record { directory = d; directories = c.directories; name = c.name; old = c.old; new = c.new }) in
       let k = subst P e h in
       record {
         path = record { directories = c.directories; name = c.name };
@@ -101,17 +104,17 @@ module _ (world : World) (old new : Option (List ℕ)) where
     rising = texts_rise found h.rising;
     each = each_text found h.each named;
     all = λ path changed.
-      let c : Change = record {
-        directory = false;
-        directories = path.directories;
-        name = path.name;
-        old = stands world old path;
-        new = stands world new path;
-      } in
-      elim (h.all c (refl, refl, changed)) [
-        inl f ↦ All-contains (HasText (leaf_texts found)) found c (have_texts found) f refl
-      | inr l ↦ absurd (subst (λ t. IsLeft world t c) none l)
-      ];
+        let c : Change = record {
+          directory = false;
+          directories = path.directories;
+          name = path.name;
+          old = stands world old path;
+          new = stands world new path;
+        } in
+        elim (h.all c (refl, refl, changed)) [
+          | inl f ↦ All-contains (HasText (leaf_texts found)) found c (have_texts found) f refl
+          | inr l ↦ absurd (subst (λ t. IsLeft world t c) none l)
+        ];
   }
 
   pub are_more : (found : List Change) (left : List Pending) (most : ℕ) → IsFoundIn world old new found left
@@ -128,8 +131,8 @@ pub by_kind : (kind kind' : Kind) (says says' : World → Type 0) (old new : Opt
     (path path' : List ℕ) (levels levels' : List Level) (trees trees' : ℕ) (more : Bool) → kind' ≡ kind
     → IsFoundSoFar kind says old new budget found path levels trees
     → ((old new : Option (List ℕ)) (budget : ℕ) (found : List Change)
-      → IsFoundSoFar kind' says old new budget found path levels trees
-      → IsFoundThen kind' says' old new budget found more path' levels' trees')
+    → IsFoundSoFar kind' says old new budget found path levels trees
+    → IsFoundThen kind' says' old new budget found more path' levels' trees')
     → IsFoundThen kind says' old new budget found more path' levels' trees'
 by_kind kind kind' says says' old new budget found path path' levels levels' trees trees' more e h step =
     subst (λ k. IsFoundThen k says' old new budget found more path' levels' trees') e
@@ -144,7 +147,7 @@ all_found kind says old new budget found more path levels trees texts h e same w
     let all = h.texts_all e in
     subst (AreChanged world old new) (all.0 ∙ same)
     (are_changed world old new h.found_then h.so_far.left (h.so_far.agreed world w) h.so_far.named
-      (none_left kind path h.so_far.left (subst (λ t. AreLevels kind path t h.so_far.left) all.1 h.so_far.levels_are)))
+    (none_left kind path h.so_far.left (subst (λ t. AreLevels kind path t h.so_far.left) all.1 h.so_far.levels_are)))
 
 -- one path more than may be was found
 pub too_many : (kind : Kind) (says : World → Type 0) (old new : Option (List ℕ)) (budget : ℕ) (found : List Change)

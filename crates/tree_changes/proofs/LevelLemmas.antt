@@ -1,18 +1,19 @@
 -- levels, with what is left of their trees
-use Rattle.std.proofs.Common.{◌≡◌, ◌≢◌, ℕ, ◌+◌, ◌-◌, ◌<◌, ◌≤◌, Bool, true, false, List, [], ◌∷◌, ◌++◌, Option, Some, None, length, length-append, take, drop, refl, sym, ap, ◌∙◌, subst, ◌⊎◌, inl, inr, append-nil, append_assoc, arith}
-use Rattle.std.specs.Prelude.{All, option_map, cond}
-use Rattle.std.specs.List.{sum_by}
+use Rattle.std.proofs.Common.{◌≡◌, ℕ, ◌+◌, ◌≤◌, Bool, true, false, List, [], ◌∷◌, ◌++◌, Option, Some, None, length, length-append}
+use Rattle.std.proofs.Common.{take, drop, refl, sym, ap, ◌∙◌, subst, inl, inr, append-nil, arith}
+use Rattle.std.specs.Prelude.{option_map, cond}
 use Rattle.std.proofs.lemmas.List.{take-append-le, take-append-drop, length-take-le}
 use Rattle.std.proofs.Math.Seq.{take-append_seam, take-length}
 use Rattle.std.proofs.lemmas.List.Elements.{All-nil, All-push, All-weaker}
 use Rattle.std.proofs.lemmas.List.Sums.{sum_by_push}
 use Rattle.std.proofs.lemmas.Grind.{flat_map-append}
 use Rattle.gix_hash_core.specs.declared.kind.Kind.{Kind}
-use Rattle.tree_objects.specs.Tree.{TreeEntry, AreEntriesAnd, IsName, IsTree}
+use Rattle.tree_objects.specs.Tree.{TreeEntry, AreEntriesAnd, IsName}
 use Rattle.tree_changes.specs.Stands.{World, item_of, id_of, entries_of, slashed}
 use Rattle.tree_changes.specs.Changes.{one_if_some}
-use Rattle.tree_changes.specs.Walk.{Change, IsChange, IsNext, Pending, IsLeft, IsLevel, AreLevels, IsFoundIn, IsFoundSoFar, HasNames, trees_of, under, IsEarlier, AreRisingChanges}
-use Rattle.tree_changes.specs.Reads.{IsReadTree, IsReadLevel}
+use Rattle.tree_changes.specs.Walk.{Change, IsChange, IsNext, Pending, IsLeft, IsLevel, AreLevels, IsFoundIn, IsFoundSoFar}
+use Rattle.tree_changes.specs.Walk.{HasNames, trees_of, under, IsEarlier, AreRisingChanges}
+use Rattle.tree_changes.specs.Reads.{IsReadLevel}
 use Rattle.tree_changes.specs.declared.trees.Level.{Level}
 use Rattle.tree_changes.proofs.WorldLemmas.{pass_level, leaf_found, tree_found, change_at, here_left, rising_push}
 
@@ -35,15 +36,20 @@ levels_longer kind x y levels [] are = are
 levels_longer kind x y levels (p ∷ ps) are =
     let level = are.1 in
     let l : IsLevel kind x level p = are.3 in
-    let same : take level.prefix (x ++ y) ≡ take level.prefix x = take-append-le level.prefix x y l.fits in
-    (are.0, level, are.2,
+    let same : take level.prefix (x ++ y) ≡ take level.prefix x = take-append-le level.prefix x y l.fits in (
+      are.0,
+      level,
+      are.2,
       level_moved kind x (x ++ y) level p l same (omega (arith, l.fits, length-append x y)),
-      are.4, subst (λ t. AreLevels kind t are.0 ps) (sym same) are.5)
+      are.4,
+      subst (λ t. AreLevels kind t are.0 ps) (sym same) are.5,
+    )
 
 levels_back : (kind : Kind) (n : ℕ) (path : List ℕ) (levels : List Level) (left : List Pending)
     → AreLevels kind (take n path) levels left → AreLevels kind path levels left
 levels_back kind n path levels left are =
-    subst (λ t. AreLevels kind t levels left) (take-append-drop n path) (levels_longer kind (take n path) (drop n path) levels left are)
+    subst (λ t. AreLevels kind t levels left) (take-append-drop n path) (levels_longer kind (take n path) (drop n path) levels
+    left are)
 
 record AreOneLast (xs ys : List Level) (x y : Level) : Type 0 where
   front : xs ≡ ys
@@ -82,8 +88,8 @@ taken kind path levels front level (p ∷ ps) are e =
       level_is = subst (λ l. IsLevel kind path l p) one.last are.3;
       depth = are.4 ∙ ap length one.front;
       others =
-      subst (λ l. AreLevels kind (take l.prefix path) front ps) one.last
-      (subst (λ f. AreLevels kind (take are.1.prefix path) f ps) one.front are.5);
+          subst (λ l. AreLevels kind (take l.prefix path) front ps) one.last
+          (subst (λ f. AreLevels kind (take are.1.prefix path) f ps) one.front are.5);
     }
 
 -- no levels, so nothing is left
@@ -94,7 +100,6 @@ none_left kind path (p ∷ ps) are = absurd (no_last are.0 are.1 are.2)
 module _ (kind : Kind) (says : World → Type 0) (old new : Option (List ℕ)) (budget : ℕ) (found : List Change) (path : List ℕ)
     (levels front : List Level) (level : Level) (trees : ℕ)
     (h : IsFoundSoFar kind says old new budget found path levels trees) (popped : levels ≡ front ++ level ∷ []) where
-
   abbrev pub top : IsTaken kind path front level h.left
   top = taken kind path levels front level h.left h.levels_are popped
 
@@ -118,7 +123,6 @@ module _ (kind : Kind) (says : World → Type 0) (old new : Option (List ℕ)) (
 
   module _ (a b : Option TreeEntry) (old_rest new_rest name : List ℕ) (directory : Bool)
       (next : IsNext kind top.p.olds top.p.news a b old_rest new_rest name directory) where
-
     abbrev pub here : Change
     here = change_at top.p.directories a b name directory
 
@@ -132,9 +136,9 @@ module _ (kind : Kind) (says : World → Type 0) (old new : Option (List ℕ)) (
     start_len = length-take-le level.prefix path top.level_is.fits
 
     -- the level, once it has gone on
-    module _ (level' : Level) (same_prefix : level'.prefix ≡ level.prefix) (old_is : drop level'.old_at level'.old.items ≡ old_rest)
+    module _ (level' : Level) (same_prefix : level'.prefix ≡ level.prefix) (old_is : drop level'.old_at level'.old.items
+        ≡ old_rest)
         (new_is : drop level'.new_at level'.new.items ≡ new_rest) (more : List ℕ) where
-
       same_start : take level'.prefix (take level.prefix path ++ more) ≡ take level.prefix path
       same_start =
           ap (λ n. take n (take level.prefix path ++ more)) (same_prefix ∙ sym start_len)
@@ -157,25 +161,25 @@ module _ (kind : Kind) (says : World → Type 0) (old new : Option (List ℕ)) (
 
       -- a leaf more
       pub one_leaf : directory ≡ false
-          → IsFoundSoFar kind says old new budget (found ++ here ∷ []) (take level.prefix path ++ more) (front ++ level' ∷ []) trees
+          → IsFoundSoFar kind says old new budget (found ++ here ∷ []) (take level.prefix path ++ more) (front ++ level' ∷ [])
+          trees
       one_leaf e = record {
         left = rest ∷ top.ps;
         levels_are = moved_levels;
         named = All-push HasNames found here h.named here_named;
         spent =
-        (let none : trees_of here ≡ 0 = ap (λ d. cond d (one_if_some here.old + one_if_some here.new) 0) e in
-        omega (arith, h.spent, sum_by_push trees_of found here, none));
+            (let none : trees_of here ≡ 0 = ap (λ d. cond d (one_if_some here.old + one_if_some here.new) 0) e in
+            omega (arith, h.spent, sum_by_push trees_of found here, none));
         agreed = λ world w.
-          leaf_found kind world old new found top.p top.ps (by_level world w) a b old_rest new_rest name directory next e;
+            leaf_found kind world old new found top.p top.ps (by_level world w) a b old_rest new_rest name directory next e;
       }
 
       -- a directory more, whose trees were read
       module _ (says' : World → Type 0) (less : (world : World) → says' world → says world) (trees' : ℕ) (below_level : Level)
           (read : IsReadLevel kind says' (id_of (option_map item_of a)) (id_of (option_map item_of b))
-            (length (take level.prefix path ++ more)) below_level)
+          (length (take level.prefix path ++ more)) below_level)
           (more_is : more ≡ name ++ 47 ∷ [])
           (fewer : trees' + one_if_some (id_of (option_map item_of a)) + one_if_some (id_of (option_map item_of b)) ≡ trees) where
-
         abbrev below : Pending
         below = record { directories = top.p.directories ++ name ∷ []; olds = read.old_tree.0; news = read.new_tree.0 }
 
@@ -184,13 +188,16 @@ module _ (kind : Kind) (says : World → Type 0) (old new : Option (List ℕ)) (
 
         below_prefix : take level.prefix path ++ more ≡ slashed (top.p.directories ++ name ∷ [])
         below_prefix =
-            ap (λ t. t ++ more) top.level_is.prefix ∙ ap (λ t. slashed top.p.directories ++ t) (more_is ∙ sym (append-nil (name ++ 47 ∷ [])))
+            ap (λ t. t ++ more) top.level_is.prefix ∙ ap (λ t. slashed top.p.directories ++ t) (more_is
+            ∙ sym (append-nil (name ++ 47 ∷ [])))
             ∙ sym (flat_map-append (λ n. n ++ 47 ∷ []) top.p.directories (name ∷ []))
 
         below_is : IsLevel kind (take level.prefix path ++ more) below_level below
         below_is = record {
-          old_entries = subst (λ n. AreEntriesAnd kind (drop n below_level.old.items) read.old_tree.0 []) (sym read.old_at) read.old_tree.1.are_entries;
-          new_entries = subst (λ n. AreEntriesAnd kind (drop n below_level.new.items) read.new_tree.0 []) (sym read.new_at) read.new_tree.1.are_entries;
+          old_entries = subst (λ n. AreEntriesAnd kind (drop n below_level.old.items) read.old_tree.0 []) (sym read.old_at)
+              read.old_tree.1.are_entries;
+          new_entries = subst (λ n. AreEntriesAnd kind (drop n below_level.new.items) read.new_tree.0 []) (sym read.new_at)
+              read.new_tree.1.are_entries;
           old_order = read.old_tree.1.rising;
           new_order = read.new_tree.1.rising;
           fits = omega (arith, read.prefix_is);
@@ -204,21 +211,27 @@ module _ (kind : Kind) (says : World → Type 0) (old new : Option (List ℕ)) (
 
         pub one_tree : directory ≡ true
             → IsFoundSoFar kind says' old new budget (found ++ here ∷ []) (take level.prefix path ++ more)
-              ((front ++ level' ∷ []) ++ below_level ∷ []) trees'
+            ((front ++ level' ∷ []) ++ below_level ∷ []) trees'
         one_tree e = record {
           left = below ∷ (rest ∷ top.ps);
-          levels_are =
-          (front ++ level' ∷ [], below_level, refl, below_is,
+          levels_are = (
+            front ++ level' ∷ [],
+            below_level,
+            refl,
+            below_is,
             (length-append top.p.directories (name ∷ []) ∙ ap (λ n. n + 1) top.depth ∙ sym (length-append front (level' ∷ []))),
-            subst (λ t. AreLevels kind t (front ++ level' ∷ []) (rest ∷ top.ps)) (sym whole) moved_levels);
+            subst (λ t. AreLevels kind t (front ++ level' ∷ []) (rest ∷ top.ps)) (sym whole) moved_levels,
+          );
           named = All-push HasNames found here h.named here_named;
           spent =
-          (let both : trees_of here ≡ one_if_some here.old + one_if_some here.new = ap (λ d. cond d (one_if_some here.old + one_if_some here.new) 0) e in
-          omega (arith, h.spent, sum_by_push trees_of found here, both, fewer, one_item a, one_item b));
+              (let both : trees_of here ≡ one_if_some here.old + one_if_some here.new = ap (λ d. cond d (one_if_some here.old +
+              one_if_some here.new) 0) e in
+              omega (arith, h.spent, sum_by_push trees_of found here, both, fewer, one_item a, one_item b));
           agreed = λ world w.
-            tree_found kind world old new found top.p top.ps (by_level world (less world w)) a b old_rest new_rest name directory next
-            below_level.old.items below_level.new.items read.old_tree.0 read.new_tree.0 read.old_tree.1.are_entries
-            read.new_tree.1.are_entries (read.old_tree.2 world w) (read.new_tree.2 world w) e;
+              tree_found kind world old new found top.p top.ps (by_level world (less world w)) a b old_rest new_rest name
+              directory next
+              below_level.old.items below_level.new.items read.old_tree.0 read.new_tree.0 read.old_tree.1.are_entries
+              read.new_tree.1.are_entries (read.old_tree.2 world w) (read.new_tree.2 world w) e;
         }
 
     -- what differs here differs between the two trees
@@ -234,7 +247,7 @@ module _ (kind : Kind) (says : World → Type 0) (old new : Option (List ℕ)) (
         let is_left = here_left kind world old new found top.p top.ps f a b old_rest new_rest name directory next in
         rising_push found here f.rising
         (All-weaker (λ x. (d : Change) → IsLeft world (top.p ∷ top.ps) d → IsEarlier x d) (λ x. IsEarlier x here)
-          (λ x g. g here is_left) found f.earlier)
+        (λ x g. g here is_left) found f.earlier)
 
 -- nothing was found yet
 pub begun : (kind : Kind) (says : World → Type 0) (old new : Option (List ℕ)) (budget : ℕ) (level : Level) (trees : ℕ)
@@ -243,8 +256,10 @@ pub begun : (kind : Kind) (says : World → Type 0) (old new : Option (List ℕ)
 begun kind says old new budget level trees read spent =
     let p : Pending = record { directories = []; olds = read.old_tree.0; news = read.new_tree.0 } in
     let is : IsLevel kind [] level p = record {
-      old_entries = subst (λ n. AreEntriesAnd kind (drop n level.old.items) read.old_tree.0 []) (sym read.old_at) read.old_tree.1.are_entries;
-      new_entries = subst (λ n. AreEntriesAnd kind (drop n level.new.items) read.new_tree.0 []) (sym read.new_at) read.new_tree.1.are_entries;
+      old_entries = subst (λ n. AreEntriesAnd kind (drop n level.old.items) read.old_tree.0 []) (sym read.old_at)
+          read.old_tree.1.are_entries;
+      new_entries = subst (λ n. AreEntriesAnd kind (drop n level.new.items) read.new_tree.0 []) (sym read.new_at)
+          read.new_tree.1.are_entries;
       old_order = read.old_tree.1.rising;
       new_order = read.new_tree.1.rising;
       fits = omega (arith, read.prefix_is);
@@ -258,18 +273,21 @@ begun kind says old new budget level trees read spent =
       spent = omega (arith, spent);
       agreed = λ world w. record {
         each = All-nil (IsChange world (entries_of world old) (entries_of world new));
-        all = λ c change. inr (inl (c.directories, refl,
+        all = λ c change. inr (inl (
+          c.directories,
+          refl,
           (let P : List TreeEntry → Type 0 = λ t. IsChange world t (entries_of world new) c in
-          let Q : List TreeEntry → Type 0 = λ t. IsChange world read.old_tree.0 t c in
-          subst Q (read.new_tree.2 world w) (subst P (read.old_tree.2 world w) change))));
+              let Q : List TreeEntry → Type 0 = λ t. IsChange world read.old_tree.0 t c in
+              subst Q (read.new_tree.2 world w) (subst P (read.old_tree.2 world w) change)),
+        ));
         none_else = λ c l. elim l [
-            inl x ↦
+          | inl x ↦
               let P : List TreeEntry → Type 0 = λ t. IsChange world t (entries_of world new) c in
               let Q : List TreeEntry → Type 0 = λ t. IsChange world read.old_tree.0 t c in
               let R : List (List ℕ) → Type 0 = λ t. IsChange world read.old_tree.0 read.new_tree.0 (under t c) in
               subst P (sym (read.old_tree.2 world w)) (subst Q (sym (read.new_tree.2 world w)) (subst R (sym x.1) x.2))
           | inr y ↦ absurd y
-          ];
+        ];
         rising = tt;
         earlier = All-nil (λ c. (d : Change) → IsLeft world (p ∷ []) d → IsEarlier c d);
         sorted = ((λ c d l m. absurd m), tt);

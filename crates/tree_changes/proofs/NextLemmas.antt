@@ -1,9 +1,9 @@
 -- the next difference of two trees
-use Rattle.std.proofs.Common.{◌≡◌, ◌≢◌, ℕ, Bool, List, [], ◌∷◌, ◌++◌, Option, Some, None, refl, sym, ap, ◌∙◌, subst, ◌⊎◌, inl, inr}
+use Rattle.std.proofs.Common.{◌≡◌, ◌≢◌, ℕ, Bool, List, [], Option, sym, ap, ◌∙◌, inl, inr}
 use Rattle.std.specs.Prelude.{option_map, ◌↔◌}
 use Rattle.gix_hash_core.specs.declared.kind.Kind.{Kind}
 use Rattle.tree_objects.specs.Tree.{TreeEntry, AreEntriesAnd}
-use Rattle.tree_objects.specs.Tree.{IsRising as AreInOrder}
+use Rattle.tree_objects.specs.Tree.{AreInOrder}
 use Rattle.tree_changes.specs.Stands.{World, item_of, item_at, id_of, entries_of}
 use Rattle.tree_changes.specs.Walk.{Change, IsChange, IsHere, IsNext}
 use Rattle.tree_changes.proofs.PairLemmas.{IsPairOf}
@@ -42,7 +42,8 @@ here_alike : (world : World) (old new : Option TreeEntry) (name : List ℕ) (dir
     → option_map item_of old ≡ option_map item_of new → IsHere world old new name directory c → ⊥
 here_alike world old new name directory c alike (inl h) = h.differs (sym h.old_is ∙ alike ∙ h.new_is)
 here_alike world old new name directory c alike (inr h) =
-    h.change.2 (sym h.change.0 ∙ ap (λ i. item_at world c.directory (entries_of world (id_of i)) h.rest c.name) alike ∙ h.change.1)
+    h.change.2 (sym h.change.0 ∙ ap (λ i. item_at world c.directory (entries_of world (id_of i)) h.rest c.name) alike
+    ∙ h.change.1)
 
 module _ (kind : Kind) (olds news : List TreeEntry) (old new : List ℕ) (p : IsPast kind olds news old new) where
   pub past_more : (a b : Option TreeEntry) (old' new' name : List ℕ) (directory : Bool)
@@ -60,12 +61,13 @@ module _ (kind : Kind) (olds news : List TreeEntry) (old new : List ℕ) (p : Is
         old_order = x.in_order;
         new_order = y.in_order;
         same = λ world c.
-          let step = step_is kind world p.olds_rest a old' p.news_rest b new' name directory x y c.directories c in
-          (λ h. elim (step.0 ((p.same world c).0 h)) [
-              inl here ↦ absurd (here_alike world a b name directory c alike here)
-            | inr rest ↦ rest
-            ],
-          λ h. (p.same world c).1 (step.1 (inr h)));
+            let step = step_is kind world p.olds_rest a old' p.news_rest b new' name directory x y c.directories c in (
+              λ h. elim (step.0 ((p.same world c).0 h)) [
+                | inl here ↦ absurd (here_alike world a b name directory c alike here)
+                | inr rest ↦ rest
+              ],
+              λ h. (p.same world c).1 (step.1 (inr h)),
+            );
       }
 
   pub next_is : (a b : Option TreeEntry) (old' new' name : List ℕ) (directory : Bool)
@@ -85,11 +87,11 @@ module _ (kind : Kind) (olds news : List TreeEntry) (old new : List ℕ) (p : Is
         named = pair.2;
         differ = differ;
         step = λ world c.
-          let step = step_is kind world p.olds_rest a old' p.news_rest b new' name directory x y c.directories c in
-          (λ h. step.0 ((p.same world c).0 h), λ h. (p.same world c).1 (step.1 h));
+            let step = step_is kind world p.olds_rest a old' p.news_rest b new' name directory x y c.directories c in
+            (λ h. step.0 ((p.same world c).0 h), λ h. (p.same world c).1 (step.1 h));
         earlier = λ world c d here rest.
-          here_before name directory pair.2 world a b x.rest y.rest x.behind (names_all kind old' x.rest x.entries_are) y.behind
-          (names_all kind new' y.rest y.entries_are) c d here rest;
+            here_before name directory pair.2 world a b x.rest y.rest x.behind (names_all kind old' x.rest x.entries_are) y.behind
+            (names_all kind new' y.rest y.entries_are) c d here rest;
       }
 
   nothing_differs : (world : World) (c : Change) (xs ys : List TreeEntry) → xs ≡ [] → ys ≡ [] → IsChange world xs ys c → ⊥
@@ -97,7 +99,7 @@ module _ (kind : Kind) (olds news : List TreeEntry) (old new : List ℕ) (p : Is
       h.2 (sym h.0 ∙ ap (λ t. item_at world c.directory t c.directories c.name) (e ∙ sym f) ∙ h.1)
 
   pub past_all : ((xs ys : List TreeEntry) → AreEntriesAnd kind old xs [] → AreEntriesAnd kind new ys [] → AreInOrder xs
-        → AreInOrder ys → (xs ≡ []) × (ys ≡ []))
+      → AreInOrder ys → (xs ≡ []) × (ys ≡ []))
       → (world : World) (c : Change) → IsChange world olds news c → ⊥
   past_all ended world c h =
       let e = ended p.olds_rest p.news_rest p.old_entries p.new_entries p.old_order p.new_order in

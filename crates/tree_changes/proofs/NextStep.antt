@@ -1,16 +1,16 @@
 -- the steps to the next path
-use Rattle.std.proofs.Common.{◌≡◌, ◌≢◌, ℕ, ◌+◌, ◌-◌, ◌<◌, ◌≤◌, Bool, true, false, cond, List, [], ◌∷◌, ◌++◌, Option, Some, None, length, length-drop, take, drop, refl, sym, ap, ◌∙◌, subst, ◌⊎◌, inl, inr, append_assoc, arith}
-use Rattle.std.specs.Prelude.{All, option_map}
-use Rattle.std.specs.List.{sum_by}
+use Rattle.std.proofs.Common.{◌≡◌, ◌≢◌, ℕ, ◌+◌, ◌-◌, ◌<◌, ◌≤◌, Bool, true, false, cond, List, [], ◌∷◌, ◌++◌, Option, Some, None}
+use Rattle.std.proofs.Common.{length, length-drop, take, drop, refl, sym, ap, ◌∙◌, subst, append_assoc, arith}
+use Rattle.std.specs.Prelude.{option_map}
 use Rattle.std.proofs.lemmas.List.Elements.{All-push}
 use Rattle.std.proofs.lemmas.List.Sums.{sum_by_push}
 use Rattle.std.proofs.lemmas.List.{take_all}
 use Rattle.gix_hash_core.specs.declared.kind.Kind.{Kind}
 use Rattle.tree_objects.specs.Tree.{TreeEntry, AreEntriesAnd}
-use Rattle.tree_objects.specs.Tree.{IsRising as AreInOrder}
+use Rattle.tree_objects.specs.Tree.{AreInOrder}
 use Rattle.tree_changes.specs.Stands.{World, Item, item_of, id_of, entries_of, slashed}
-use Rattle.tree_changes.specs.Changes.{one_if_some, IsDeeper, IsMuch, IsNeeded}
-use Rattle.tree_changes.specs.Walk.{Change, IsChange, IsNext, IsEnd, Pending, IsLevel, IsFoundSoFar, leaf_texts, trees_of}
+use Rattle.tree_changes.specs.Changes.{one_if_some, IsDeeper}
+use Rattle.tree_changes.specs.Walk.{Change, IsChange, IsNext, IsEnd, Pending, IsFoundSoFar, leaf_texts, trees_of}
 use Rattle.tree_changes.specs.Reads.{IsReadLevel, IsFoundThen, IsStopped, IsReadRefusal}
 use Rattle.tree_changes.specs.declared.trees.Level.{Level}
 use Rattle.tree_changes.specs.declared.changes.Refusal.{Refusal}
@@ -75,7 +75,6 @@ module _ (kind kind' : Kind) (same_kind : kind' ≡ kind) (says : World → Type
     (h : IsGoneOn kind says old new budget found path levels trees) (popped : levels ≡ front ++ level ∷ [])
     (old_bytes new_bytes : List ℕ) (old_is : old_bytes ≡ drop level.old_at level.old.items)
     (new_is : new_bytes ≡ drop level.new_at level.new.items) where
-
   -- a level is done
   pub level_on : NoneBy old_bytes new_bytes kind'
       → IsGoneOn kind says old new budget found path front trees
@@ -87,14 +86,13 @@ module _ (kind kind' : Kind) (same_kind : kind' ≡ kind) (says : World → Type
       record {
         found_then = h.found_then;
         so_far =
-        level_done kind says old new budget h.found_then path levels front level trees h.so_far popped
-        (k t.p.olds t.p.news t.level_is.old_entries t.level_is.new_entries t.level_is.old_order t.level_is.new_order);
+            level_done kind says old new budget h.found_then path levels front level trees h.so_far popped
+            (k t.p.olds t.p.news t.level_is.old_entries t.level_is.new_entries t.level_is.old_order t.level_is.new_order);
         texts = h.texts;
       }
 
   module _ (a b : Option TreeEntry) (old_rest new_rest name : List ℕ) (directory : Bool)
       (by : NextBy old_bytes new_bytes a b old_rest new_rest name directory kind') where
-
     abbrev pub next_top : Pending
     next_top = (top kind says old new budget h.found_then path levels front level trees h.so_far popped).p
 
@@ -115,7 +113,8 @@ module _ (kind kind' : Kind) (same_kind : kind' ≡ kind) (says : World → Type
     too_deep names e long world w =
         let t = top kind says old new budget h.found_then path levels front level trees h.so_far popped in
         is_deeper world old new here names
-        (here_changed kind says old new budget h.found_then path levels front level trees h.so_far popped a b old_rest new_rest name directory next world w)
+        (here_changed kind says old new budget h.found_then path levels front level trees h.so_far popped a b old_rest new_rest
+        name directory next world w)
         e (omega (arith, t.depth, long))
 
     -- their trees were not read
@@ -126,12 +125,16 @@ module _ (kind kind' : Kind) (same_kind : kind' ≡ kind) (says : World → Type
     not_read refused names TooDeep e r world w = absurd r
     not_read refused names TooMuch e r world w =
         let between =
-        here_changed kind says old new budget h.found_then path levels front level trees h.so_far popped a b old_rest new_rest name directory next world w in
+        here_changed kind says old new budget h.found_then path levels front level trees h.so_far popped a b old_rest new_rest
+        name directory next world w in
         let rises =
-        here_rises kind says old new budget h.found_then path levels front level trees h.so_far popped a b old_rest new_rest name directory next world w in
-        let both : trees_of here ≡ one_if_some here.old + one_if_some here.new = ap (λ d. cond d (one_if_some here.old + one_if_some here.new) 0) e in
+        here_rises kind says old new budget h.found_then path levels front level trees h.so_far popped a b old_rest new_rest name
+        directory next world w in
+        let both : trees_of here ≡ one_if_some here.old + one_if_some here.new = ap (λ d. cond d (one_if_some here.old +
+        one_if_some here.new) 0) e in
         is_much world old new (h.found_then ++ here ∷ []) budget
-        (All-push (IsChange world (entries_of world old) (entries_of world new)) h.found_then here (h.so_far.agreed world w).each between)
+        (All-push (IsChange world (entries_of world old) (entries_of world new)) h.found_then here (h.so_far.agreed world w).each
+        between)
         rises
         (omega (arith, h.so_far.spent, r, sum_by_push trees_of h.found_then here, both, one_item a, one_item b))
       where
@@ -140,13 +143,14 @@ module _ (kind kind' : Kind) (same_kind : kind' ≡ kind) (says : World → Type
         one_item (Some e) = refl
     not_read refused names (Source error) e r world w =
         let between =
-        here_changed kind says old new budget h.found_then path levels front level trees h.so_far popped a b old_rest new_rest name directory next world w in
+        here_changed kind says old new budget h.found_then path levels front level trees h.so_far popped a b old_rest new_rest
+        name directory next world w in
         (r.0, is_needed world old new here r.0 between e r.1, r.2)
     not_read refused names OutOfMemory e r world w = tt
 
-    module _ (level' : Level) (same_prefix : level'.prefix ≡ level.prefix) (old_left : drop level'.old_at level'.old.items ≡ old_rest)
+    module _ (level' : Level) (same_prefix : level'.prefix ≡ level.prefix) (old_left : drop level'.old_at level'.old.items
+        ≡ old_rest)
         (new_left : drop level'.new_at level'.new.items ≡ new_rest) where
-
       -- a leaf more
       pub leaf_then : (path' : List ℕ) (levels' : List Level) → directory ≡ false → path' ≡ take level.prefix path ++ name
           → levels' ≡ front ++ level' ∷ [] → IsFoundThen kind says old new budget found true path' levels' trees
@@ -155,14 +159,16 @@ module _ (kind kind' : Kind) (same_kind : kind' ≡ kind) (says : World → Type
           record {
             found_then = h.found_then ++ here ∷ [];
             so_far =
-            subst (λ x. IsFoundSoFar kind says old new budget (h.found_then ++ here ∷ []) x levels' trees) (sym path_is)
-            (subst (λ x. IsFoundSoFar kind says old new budget (h.found_then ++ here ∷ []) (take level.prefix path ++ name) x trees)
-              (sym levels_are)
-              (one_leaf kind says old new budget h.found_then path levels front level trees h.so_far popped a b old_rest new_rest
+                subst (λ x. IsFoundSoFar kind says old new budget (h.found_then ++ here ∷ []) x levels' trees) (sym path_is)
+                (subst (λ x. IsFoundSoFar kind says old new budget (h.found_then ++ here ∷ []) (take level.prefix path ++ name) x
+                trees)
+                (sym levels_are)
+                (one_leaf kind says old new budget h.found_then path levels front level trees h.so_far popped a b old_rest
+                new_rest
                 name directory next level' same_prefix old_left new_left name e));
             texts_more = λ _.
-              leaf_pushed h.found_then here e ∙ ap (λ x. x ++ text_of here ∷ []) h.texts
-              ∙ ap (λ x. leaf_texts found ++ x ∷ []) (ap (λ x. x ++ name) (sym t.level_is.prefix) ∙ sym path_is);
+                leaf_pushed h.found_then here e ∙ ap (λ x. x ++ text_of here ∷ []) h.texts
+                ∙ ap (λ x. leaf_texts found ++ x ∷ []) (ap (λ x. x ++ name) (sym t.level_is.prefix) ∙ sym path_is);
             texts_all = λ f. absurd (let g = f in cc);
           }
 
@@ -175,16 +181,21 @@ module _ (kind kind' : Kind) (same_kind : kind' ≡ kind) (says : World → Type
           → trees' + one_if_some (id_of (option_map item_of a)) + one_if_some (id_of (option_map item_of b)) ≡ trees
           → IsGoneOn kind says' old new budget found path' levels' trees'
       tree_on says' less trees' below path' levels' n e path_is n_is levels_are read fewer =
-          let whole : path' ≡ take level.prefix path ++ (name ++ 47 ∷ []) = path_is ∙ append_assoc (take level.prefix path) name (47 ∷ []) in
-          let read' = subst (λ x. IsReadLevel kind says' (id_of (option_map item_of a)) (id_of (option_map item_of b)) x below) (n_is ∙ ap length whole) read in
+          let whole : path' ≡ take level.prefix path ++ (name ++ 47 ∷ []) = path_is
+          ∙ append_assoc (take level.prefix path) name (47 ∷ []) in
+          let read' = subst (λ x. IsReadLevel kind says' (id_of (option_map item_of a)) (id_of (option_map item_of b)) x below)
+          (n_is ∙ ap length whole) read in
           record {
             found_then = h.found_then ++ here ∷ [];
             so_far =
-            subst (λ x. IsFoundSoFar kind says' old new budget (h.found_then ++ here ∷ []) x levels' trees') (sym whole)
-            (subst (λ x. IsFoundSoFar kind says' old new budget (h.found_then ++ here ∷ []) (take level.prefix path ++ (name ++ 47 ∷ [])) x trees')
-              (sym levels_are)
-              (one_tree kind says old new budget h.found_then path levels front level trees h.so_far popped a b old_rest new_rest
-                name directory next level' same_prefix old_left new_left (name ++ 47 ∷ []) says' less trees' below read' refl fewer e));
+                subst (λ x. IsFoundSoFar kind says' old new budget (h.found_then ++ here ∷ []) x levels' trees') (sym whole)
+                (subst (λ x. IsFoundSoFar kind says' old new budget (h.found_then ++ here ∷ []) (take level.prefix path ++ (name
+                ++ 47 ∷ [])) x trees')
+                (sym levels_are)
+                (one_tree kind says old new budget h.found_then path levels front level trees h.so_far popped a b old_rest
+                new_rest
+                name directory next level' same_prefix old_left new_left (name ++ 47 ∷ []) says' less trees' below read' refl
+                fewer e));
             texts = tree_pushed h.found_then here e ∙ h.texts;
           }
 

@@ -1,20 +1,19 @@
 -- one side of a pair
-use Rattle.std.proofs.Common.{◌≡◌, ◌≢◌, ℕ, Bool, true, false, not, ◌&&◌, cond, List, [], ◌∷◌, ◌++◌, Option, Some, None, refl, sym, ap, ◌∙◌, subst}
-use Rattle.std.specs.Prelude.{option_map, nat_eq, All, IfSome}
-use Rattle.std.specs.Option.{option_to_list}
+use Rattle.std.proofs.Common.{◌≡◌, ℕ, Bool, true, false, not, ◌&&◌, cond, List, [], ◌∷◌, ◌++◌, Option, Some, None, refl, sym, ap}
+use Rattle.std.proofs.Common.{◌∙◌, subst}
+use Rattle.std.specs.Prelude.{option_map, nat_eq, All}
 use Rattle.std.specs.Ordering.{nat_cmp}
-use Rattle.std.specs.declared.cmp.Ordering.{Ordering}
-use Rattle.std.specs.declared.cmp.Ordering.TheVariants.{Less, Equal, Greater}
+use Rattle.std.specs.declared.cmp.Ordering.TheVariants.{Less}
 use Rattle.std.specs.Cmp.Lexicographic.{pointwise, bytes_decides, slice_cmp}
 use Rattle.std.proofs.lemmas.Cmp.{nat_list_cmp_total, tied_itself}
 use Rattle.std.proofs.lemmas.List.Elements.{All-nil, All-cons, All-head, All-tail, All-weaker}
 use Rattle.gix_hash_core.specs.declared.kind.Kind.{Kind}
 use Rattle.tree_objects.specs.declared.mode.EntryKind.{EntryKind}
 use Rattle.tree_objects.specs.declared.mode.EntryKind.TheVariants.{Directory, File, Executable, Link, Submodule}
-use Rattle.tree_objects.specs.Tree.{TreeEntry, AreEntriesAnd, IsBefore, key_of, key_end}
-use Rattle.tree_objects.specs.Tree.{IsRising as AreInOrder}
+use Rattle.tree_objects.specs.Tree.{TreeEntry, AreEntriesAnd, StandsBefore, key_of, key_end}
+use Rattle.tree_objects.specs.Tree.{AreInOrder}
 use Rattle.tree_objects.proofs.ReadLemmas.{rest_rising}
-use Rattle.tree_changes.specs.Stands.{Item, is_directory, is_named, item_of, item_named}
+use Rattle.tree_changes.specs.Stands.{is_directory, is_named, item_of, item_named}
 use Rattle.tree_changes.specs.Walk.{IsSide, end_if}
 
 pub end_by_kind : (kind : EntryKind) → key_end kind ≡ end_if (is_directory kind)
@@ -28,29 +27,29 @@ pub key_is : (a : TreeEntry) → key_of a ≡ a.name ++ end_if (is_directory a.k
 unfolding key_of
 key_is a = ap (λ x. a.name ++ x) (end_by_kind a.kind)
 
-pub before_all : (a : TreeEntry) (entries : List TreeEntry) → AreInOrder (a ∷ entries) → All (IsBefore a) entries
-before_all a [] order = All-nil (IsBefore a)
+pub before_all : (a : TreeEntry) (entries : List TreeEntry) → AreInOrder (a ∷ entries) → All (StandsBefore a) entries
+before_all a [] order = All-nil (StandsBefore a)
 before_all a (b ∷ entries) order =
-    All-cons (IsBefore a) b entries order.0
-    (All-weaker (IsBefore b) (IsBefore a)
-      (λ e before. nat_list_cmp_total.trans (key_of a) (key_of b) (key_of e) order.0 before) entries
-      (before_all b entries order.1))
+    All-cons (StandsBefore a) b entries order.0
+    (All-weaker (StandsBefore b) (StandsBefore a)
+    (λ e before. nat_list_cmp_total.trans (key_of a) (key_of b) (key_of e) order.0 before) entries
+    (before_all b entries order.1))
 
 -- an entry before the first of entries in order is before all
-pub before_first : (a b : TreeEntry) (entries : List TreeEntry) → AreInOrder (b ∷ entries) → IsBefore a b
-    → All (IsBefore a) (b ∷ entries)
+pub before_first : (a b : TreeEntry) (entries : List TreeEntry) → AreInOrder (b ∷ entries) → StandsBefore a b
+    → All (StandsBefore a) (b ∷ entries)
 before_first a b entries order before =
-    All-cons (IsBefore a) b entries before
-    (All-weaker (IsBefore b) (IsBefore a)
-      (λ e h. nat_list_cmp_total.trans (key_of a) (key_of b) (key_of e) before h) entries (before_all b entries order))
+    All-cons (StandsBefore a) b entries before
+    (All-weaker (StandsBefore b) (StandsBefore a)
+    (λ e h. nat_list_cmp_total.trans (key_of a) (key_of b) (key_of e) before h) entries (before_all b entries order))
 
 abbrev IsBehind : List ℕ → Bool → TreeEntry → Type 0
 IsBehind name directory e = slice_cmp nat_cmp (name ++ end_if directory) (key_of e) ≡ Less
 
-behind_key : (a : TreeEntry) (entries : List TreeEntry) → All (IsBefore a) entries
+behind_key : (a : TreeEntry) (entries : List TreeEntry) → All (StandsBefore a) entries
     → All (IsBehind a.name (is_directory a.kind)) entries
 behind_key a entries all =
-    All-weaker (IsBefore a) (IsBehind a.name (is_directory a.kind))
+    All-weaker (StandsBefore a) (IsBehind a.name (is_directory a.kind))
     (λ e h. subst (λ k. slice_cmp nat_cmp k (key_of e) ≡ Less) (key_is a) h) entries all
 
 -- the side of the entry that a pair is of
@@ -70,7 +69,7 @@ side_first kind entries a more bytes e are order =
 
 -- a side without such an entry
 pub side_none : (kind : Kind) (entries : List TreeEntry) (a : TreeEntry) (bytes : List ℕ) → AreEntriesAnd kind bytes entries []
-    → AreInOrder entries → All (IsBefore a) entries → IsSide kind entries None bytes a.name (is_directory a.kind)
+    → AreInOrder entries → All (StandsBefore a) entries → IsSide kind entries None bytes a.name (is_directory a.kind)
 side_none kind entries a bytes are order before = record {
   rest = entries;
   all = refl;
@@ -145,7 +144,8 @@ none_asked : (directory : Bool) (name : List ℕ) (d : Bool) (n : List ℕ) (res
     → item_named directory name rest ≡ None
     → item_named d n rest ≡ cond (is_asked directory name d n) None (item_named d n rest)
 none_asked directory name d n rest gone' =
-    elim (is_asked directory name d n) as (λ t. is_asked directory name d n ≡ t → item_named d n rest ≡ cond t None (item_named d n rest)) [
+    elim (is_asked directory name d n) as (λ t. is_asked directory name d n ≡ t
+    → item_named d n rest ≡ cond t None (item_named d n rest)) [
       | true ↦ λ h.
           let is = asked_true directory name d n h in
           subst (λ x. item_named x n rest ≡ None) is.0 (subst (λ x. item_named directory x rest ≡ None) is.1 gone')
@@ -160,5 +160,6 @@ module _ (kind : Kind) (entries : List TreeEntry) (bytes name : List ℕ) (direc
       ap (item_named d n) s.all ∙ none_asked directory name d n s.rest (gone name directory s.rest s.behind)
   side_item (Some e) s d n =
       ap (item_named d n) s.all
-      ∙ ap (λ (x : List ℕ). cond (cond d (is_directory e.kind) (not (is_directory e.kind)) && pointwise nat_eq x n) (Some (item_of e)) (item_named d n s.rest)) s.named.0
+      ∙ ap (λ (x : List ℕ). cond (cond d (is_directory e.kind) (not (is_directory e.kind)) && pointwise nat_eq x n) (Some
+      (item_of e)) (item_named d n s.rest)) s.named.0
       ∙ ap (λ (x : Bool). cond (cond d x (not x) && pointwise nat_eq name n) (Some (item_of e)) (item_named d n s.rest)) s.named.1

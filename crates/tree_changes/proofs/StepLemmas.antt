@@ -1,10 +1,11 @@
 -- one pair more
-use Rattle.std.proofs.Common.{◌≡◌, ◌≢◌, ℕ, Bool, true, false, not, ◌&&◌, cond, List, [], ◌∷◌, ◌++◌, Option, Some, None, refl, sym, ap, ◌∙◌, subst, ◌⊎◌, inl, inr}
+use Rattle.std.proofs.Common.{◌≡◌, ℕ, Bool, true, false, cond, List, [], ◌∷◌, Option, None, refl, sym, ap, ◌∙◌, subst, ◌⊎◌, inl}
+use Rattle.std.proofs.Common.{inr}
 use Rattle.std.specs.Prelude.{option_map, ◌↔◌}
 use Rattle.gix_hash_core.specs.declared.kind.Kind.{Kind}
 use Rattle.tree_objects.specs.Tree.{TreeEntry}
 use Rattle.tree_changes.specs.Stands.{World, Item, item_of, item_named, item_at, id_of, entries_of}
-use Rattle.tree_changes.specs.Walk.{Change, IsChange, IsItself, IsBelow, IsHere, IsSide, under}
+use Rattle.tree_changes.specs.Walk.{Change, IsChange, IsHere, IsSide, under}
 use Rattle.tree_changes.proofs.SideLemmas.{is_asked, asked_true, asked_itself, side_item, gone}
 
 pub of_true : {A : Type 0} (b : Bool) (x y z : A) → b ≡ true → z ≡ cond b x y → z ≡ x
@@ -59,7 +60,6 @@ module _ (kind : Kind) (world : World) (entries : List TreeEntry) (first : Optio
 module _ (kind : Kind) (world : World) (olds : List TreeEntry) (old : Option TreeEntry) (old_bytes : List ℕ)
     (news : List TreeEntry) (new : Option TreeEntry) (new_bytes name : List ℕ) (directory : Bool)
     (a : IsSide kind olds old old_bytes name directory) (b : IsSide kind news new new_bytes name directory) where
-
   top_forth : (c : Change) (t : Bool) → is_asked directory name c.directory c.name ≡ t → IsChange world olds news (under [] c)
       → IsHere world old new name directory (under [] c) ⊎ IsChange world a.rest b.rest (under [] c)
   top_forth c true t h =
@@ -73,23 +73,30 @@ module _ (kind : Kind) (world : World) (olds : List TreeEntry) (old : Option Tre
         differs = h.2;
       }))
   top_forth c false t h =
-      inr (sym (top_rest kind world olds old old_bytes name directory a c.directory c.name t) ∙ h.0,
-        sym (top_rest kind world news new new_bytes name directory b c.directory c.name t) ∙ h.1, h.2)
+      inr (
+        sym (top_rest kind world olds old old_bytes name directory a c.directory c.name t) ∙ h.0,
+        sym (top_rest kind world news new new_bytes name directory b c.directory c.name t) ∙ h.1,
+        h.2,
+      )
 
   top_back : (c : Change) (t : Bool) → is_asked directory name c.directory c.name ≡ t
       → IsHere world old new name directory (under [] c) ⊎ IsChange world a.rest b.rest (under [] c)
       → IsChange world olds news (under [] c)
   top_back c t e (inl (inl h)) =
-      let asked = asked_itself directory name c.directory c.name (sym h.directory_is) (sym h.name_is) in
-      (top_here kind world olds old old_bytes name directory a c.directory c.name asked ∙ h.old_is,
-        top_here kind world news new new_bytes name directory b c.directory c.name asked ∙ h.new_is, h.differs)
+      let asked = asked_itself directory name c.directory c.name (sym h.directory_is) (sym h.name_is) in (
+        top_here kind world olds old old_bytes name directory a c.directory c.name asked ∙ h.old_is,
+        top_here kind world news new new_bytes name directory b c.directory c.name asked ∙ h.new_is,
+        h.differs,
+      )
   top_back c t e (inl (inr h)) = absurd (let f = h.directories_are in cc)
   top_back c true e (inr h) =
       absurd (h.2 (sym h.0 ∙ top_gone kind world olds old old_bytes name directory a c.directory c.name e
-        ∙ sym (top_gone kind world news new new_bytes name directory b c.directory c.name e) ∙ h.1))
-  top_back c false e (inr h) =
-      (top_rest kind world olds old old_bytes name directory a c.directory c.name e ∙ h.0,
-        top_rest kind world news new new_bytes name directory b c.directory c.name e ∙ h.1, h.2)
+      ∙ sym (top_gone kind world news new new_bytes name directory b c.directory c.name e) ∙ h.1))
+  top_back c false e (inr h) = (
+    top_rest kind world olds old old_bytes name directory a c.directory c.name e ∙ h.0,
+    top_rest kind world news new new_bytes name directory b c.directory c.name e ∙ h.1,
+    h.2,
+  )
 
   low_forth : (m : List ℕ) (ds : List (List ℕ)) (c : Change) (t : Bool) → is_asked directory name true m ≡ t
       → IsChange world olds news (under (m ∷ ds) c)
@@ -100,12 +107,18 @@ module _ (kind : Kind) (world : World) (olds : List TreeEntry) (old : Option Tre
         directory_is = is.0;
         rest = ds;
         directories_are = ap (λ x. x ∷ ds) (sym is.1);
-        change = (sym (below_here kind world olds old old_bytes name directory a c.directory m ds c.name t) ∙ h.0,
-          sym (below_here kind world news new new_bytes name directory b c.directory m ds c.name t) ∙ h.1, h.2);
+        change = (
+          sym (below_here kind world olds old old_bytes name directory a c.directory m ds c.name t) ∙ h.0,
+          sym (below_here kind world news new new_bytes name directory b c.directory m ds c.name t) ∙ h.1,
+          h.2,
+        );
       }))
   low_forth m ds c false t h =
-      inr (sym (below_rest kind world olds old old_bytes name directory a c.directory m ds c.name t) ∙ h.0,
-        sym (below_rest kind world news new new_bytes name directory b c.directory m ds c.name t) ∙ h.1, h.2)
+      inr (
+        sym (below_rest kind world olds old old_bytes name directory a c.directory m ds c.name t) ∙ h.0,
+        sym (below_rest kind world news new new_bytes name directory b c.directory m ds c.name t) ∙ h.1,
+        h.2,
+      )
 
   low_back : (m : List ℕ) (ds : List (List ℕ)) (c : Change) (t : Bool) → is_asked directory name true m ≡ t
       → IsHere world old new name directory (under (m ∷ ds) c) ⊎ IsChange world a.rest b.rest (under (m ∷ ds) c)
@@ -113,22 +126,31 @@ module _ (kind : Kind) (world : World) (olds : List TreeEntry) (old : Option Tre
   low_back m ds c t e (inl (inl h)) = absurd (let f = h.top in cc)
   low_back m ds c t e (inl (inr h)) =
       let asked = asked_itself directory name true m h.directory_is (heads m name ds h.rest h.directories_are) in
-      let change : IsChange world (entries_of world (id_of (option_map item_of old))) (entries_of world (id_of (option_map item_of new))) (under ds c) =
-      subst (λ x. IsChange world (entries_of world (id_of (option_map item_of old))) (entries_of world (id_of (option_map item_of new))) (under x c)) (tails m name ds h.rest h.directories_are) h.change in
-      (below_here kind world olds old old_bytes name directory a c.directory m ds c.name asked ∙ change.0,
-        below_here kind world news new new_bytes name directory b c.directory m ds c.name asked ∙ change.1, change.2)
+      let change : IsChange world (entries_of world (id_of (option_map item_of old))) (entries_of world (id_of (option_map
+      item_of new))) (under ds c) =
+      subst (λ x. IsChange world (entries_of world (id_of (option_map item_of old))) (entries_of world (id_of (option_map item_of
+      new))) (under x c)) (tails m name ds h.rest h.directories_are) h.change in (
+        below_here kind world olds old old_bytes name directory a c.directory m ds c.name asked ∙ change.0,
+        below_here kind world news new new_bytes name directory b c.directory m ds c.name asked ∙ change.1,
+        change.2,
+      )
   low_back m ds c true e (inr h) =
       absurd (h.2 (sym h.0 ∙ below_gone kind world olds old old_bytes name directory a c.directory m ds c.name e
-        ∙ sym (below_gone kind world news new new_bytes name directory b c.directory m ds c.name e) ∙ h.1))
-  low_back m ds c false e (inr h) =
-      (below_rest kind world olds old old_bytes name directory a c.directory m ds c.name e ∙ h.0,
-        below_rest kind world news new new_bytes name directory b c.directory m ds c.name e ∙ h.1, h.2)
+      ∙ sym (below_gone kind world news new new_bytes name directory b c.directory m ds c.name e) ∙ h.1))
+  low_back m ds c false e (inr h) = (
+    below_rest kind world olds old old_bytes name directory a c.directory m ds c.name e ∙ h.0,
+    below_rest kind world news new new_bytes name directory b c.directory m ds c.name e ∙ h.1,
+    h.2,
+  )
 
   -- what differs is here, or among what is behind
   pub step_is : (ds : List (List ℕ)) (c : Change)
       → IsChange world olds news (under ds c)
       ↔ (IsHere world old new name directory (under ds c) ⊎ IsChange world a.rest b.rest (under ds c))
-  step_is [] c =
-      (top_forth c (is_asked directory name c.directory c.name) refl, top_back c (is_asked directory name c.directory c.name) refl)
+  step_is [] c = (
+    top_forth c (is_asked directory name c.directory c.name) refl,
+    top_back c (is_asked directory name c.directory c.name)
+        refl,
+  )
   step_is (m ∷ ds) c =
       (low_forth m ds c (is_asked directory name true m) refl, low_back m ds c (is_asked directory name true m) refl)

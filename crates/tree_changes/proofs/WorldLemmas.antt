@@ -1,19 +1,21 @@
 -- what was found and what is left, by one world
-use Rattle.std.proofs.Common.{◌≡◌, ◌≢◌, ℕ, ◌<◌, Bool, true, false, List, [], ◌∷◌, ◌++◌, Option, Some, None, length, refl, sym, ap, ◌∙◌, subst, ◌⊎◌, inl, inr, append-nil, append_assoc, arith}
+use Rattle.std.proofs.Common.{◌≡◌, ℕ, ◌<◌, Bool, true, false, List, [], ◌∷◌, ◌++◌, Option, Some, None, length, refl, sym, ap, ◌∙◌}
+use Rattle.std.proofs.Common.{subst, ◌⊎◌, inl, inr, append-nil, append_assoc, arith}
 use Rattle.std.specs.Prelude.{All, Contains, option_map}
 use Rattle.std.specs.Ordering.{nat_cmp, ordering_then}
-use Rattle.std.specs.declared.cmp.Ordering.{Ordering}
-use Rattle.std.specs.declared.cmp.Ordering.TheVariants.{Less, Equal, Greater}
+use Rattle.std.specs.declared.cmp.Ordering.TheVariants.{Less, Equal}
 use Rattle.std.specs.Cmp.{nat_cmp_is}
 use Rattle.std.specs.Cmp.Lexicographic.{slice_cmp}
 use Rattle.std.proofs.lemmas.Grind.{flat_map-append}
-use Rattle.std.proofs.lemmas.List.Elements.{All-nil, All-head, All-tail, All-push, All-weaker, All-contains, Contains-append_left, Contains-push}
+use Rattle.std.proofs.lemmas.List.Elements.{All-nil, All-head, All-tail, All-push, All-weaker, All-contains, Contains-append_left}
+use Rattle.std.proofs.lemmas.List.Elements.{Contains-push}
 use Rattle.gix_hash_core.specs.declared.kind.Kind.{Kind}
 use Rattle.tree_objects.specs.Tree.{TreeEntry, AreEntriesAnd, IsName, key_of}
-use Rattle.tree_changes.specs.Stands.{World, Item, item_of, item_at, id_of, entries_of, is_directory, slashed}
-use Rattle.tree_changes.specs.Walk.{Change, IsChange, IsHere, IsItself, IsBelow, IsEarlier, change_key, end_if, under, IsNext, Pending, IsLeftIn, IsLeft, AreSorted, AreRisingChanges, IsFoundIn}
+use Rattle.tree_changes.specs.Stands.{World, Item, item_of, id_of, entries_of, is_directory, slashed}
+use Rattle.tree_changes.specs.Walk.{Change, IsChange, IsItself, IsBelow, IsEarlier, change_key, end_if, under, IsNext, Pending}
+use Rattle.tree_changes.specs.Walk.{IsLeftIn, IsLeft, AreSorted, AreRisingChanges, IsFoundIn}
 use Rattle.tree_changes.proofs.SideLemmas.{key_is}
-use Rattle.tree_changes.proofs.EarlierLemmas.{HasKey, at_key, names_all}
+use Rattle.tree_changes.proofs.EarlierLemmas.{at_key, names_all}
 
 same_front : (s a b : List ℕ) → slice_cmp nat_cmp (s ++ a) (s ++ b) ≡ slice_cmp nat_cmp a b
 same_front [] a b = refl
@@ -56,25 +58,25 @@ key_some e y h =
 pub rising_push : (found : List Change) (c : Change) → AreRisingChanges found → All (λ x. IsEarlier x c) found
     → AreRisingChanges (found ++ c ∷ [])
 rising_push [] c r a = (All-nil (IsEarlier c), tt)
-rising_push (x ∷ found) c r a =
-    (All-push (IsEarlier x) found c r.0 (All-head (λ x. IsEarlier x c) x found a),
-      rising_push found c r.1 (All-tail (λ x. IsEarlier x c) x found a))
+rising_push (x ∷ found) c r a = (
+  All-push (IsEarlier x) found c r.0 (All-head (λ x. IsEarlier x c) x found a),
+  rising_push found c r.1 (All-tail (λ x. IsEarlier x c) x found a),
+)
 
 module _ (world : World) (old new : Option (List ℕ)) (found : List Change) (p : Pending) (ps : List Pending)
     (h : IsFoundIn world old new found (p ∷ ps)) where
-
   -- a level is done
   pub pass_level : ((c : Change) → IsChange world p.olds p.news c → ⊥) → IsFoundIn world old new found ps
   pass_level none = record {
     each = h.each;
     all = λ c change. elim (h.all c change) [
-        inl f ↦ inl f
+      | inl f ↦ inl f
       | inr l ↦ elim l [ inl here ↦ absurd (none (under here.0 c) here.2) | inr rest ↦ inr rest ]
-      ];
+    ];
     none_else = λ c l. h.none_else c (inr l);
     rising = h.rising;
     earlier = All-weaker (λ c. (d : Change) → IsLeft world (p ∷ ps) d → IsEarlier c d)
-      (λ c. (d : Change) → IsLeft world ps d → IsEarlier c d) (λ c f d l. f d (inr l)) found h.earlier;
+        (λ c. (d : Change) → IsLeft world ps d → IsEarlier c d) (λ c f d l. f d (inr l)) found h.earlier;
     sorted = h.sorted.1;
   }
 
@@ -86,18 +88,18 @@ module _ (world : World) (old new : Option (List ℕ)) (found : List Change) (p 
   found_more c left sub split is_left before sorted = record {
     each = All-push (IsChange world (entries_of world old) (entries_of world new)) found c h.each (h.none_else c is_left);
     all = λ d change. elim (h.all d change) [
-        inl f ↦ inl (Contains-append_left found (c ∷ []) d f)
+      | inl f ↦ inl (Contains-append_left found (c ∷ []) d f)
       | inr l ↦ elim (split d l) [
-          inl same ↦ inl (subst (Contains (found ++ c ∷ [])) (sym same) (Contains-push found c))
+        | inl same ↦ inl (subst (Contains (found ++ c ∷ [])) (sym same) (Contains-push found c))
         | inr rest ↦ inr rest
-        ]
-      ];
+      ]
+    ];
     none_else = λ d l. h.none_else d (sub d l);
     rising = rising_push found c h.rising
-      (All-weaker (λ x. (d : Change) → IsLeft world (p ∷ ps) d → IsEarlier x d) (λ x. IsEarlier x c) (λ x f. f c is_left) found
+        (All-weaker (λ x. (d : Change) → IsLeft world (p ∷ ps) d → IsEarlier x d) (λ x. IsEarlier x c) (λ x f. f c is_left) found
         h.earlier);
     earlier = All-push (λ x. (d : Change) → IsLeft world left d → IsEarlier x d) found c
-      (All-weaker (λ x. (d : Change) → IsLeft world (p ∷ ps) d → IsEarlier x d)
+        (All-weaker (λ x. (d : Change) → IsLeft world (p ∷ ps) d → IsEarlier x d)
         (λ x. (d : Change) → IsLeft world left d → IsEarlier x d) (λ x f d l. f d (sub d l)) found h.earlier) before;
     sorted = sorted;
   }
@@ -110,16 +112,48 @@ change_at dirs a b name directory =
 change_is : (c d : Change) → c.directory ≡ d.directory → c.directories ≡ d.directories → c.name ≡ d.name → c.old ≡ d.old
     → c.new ≡ d.new → c ≡ d
 change_is c d e f g i j =
-    ap (λ (x : Bool). let t : Change = record { directory = x; directories = c.directories; name = c.name; old = c.old; new = c.new } in t) e
-    ∙ ap (λ (x : List (List ℕ)). let t : Change = record { directory = d.directory; directories = x; name = c.name; old = c.old; new = c.new } in t) f
-    ∙ ap (λ (x : List ℕ). let t : Change = record { directory = d.directory; directories = d.directories; name = x; old = c.old; new = c.new } in t) g
-    ∙ ap (λ (x : Option Item). let t : Change = record { directory = d.directory; directories = d.directories; name = d.name; old = x; new = c.new } in t) i
-    ∙ ap (λ (x : Option Item). let t : Change = record { directory = d.directory; directories = d.directories; name = d.name; old = d.old; new = x } in t) j
+    ap (λ (x : Bool). let t : Change = record {
+      directory = x;
+      directories = c.directories;
+      name = c.name;
+      old = c.old;
+      new =
+          c.new;
+    } in t) e
+    ∙ ap (λ (x : List (List ℕ)). let t : Change = record {
+      directory = d.directory;
+      directories = x;
+      name = c.name;
+      old = c.old;
+      new = c.new;
+    } in t) f
+    ∙ ap (λ (x : List ℕ). let t : Change = record {
+      directory = d.directory;
+      directories = d.directories;
+      name = x;
+      old = c.old;
+      new = c.new;
+    } in t) g
+    ∙ ap (λ (x : Option Item). let t : Change = record {
+      directory = d.directory;
+      directories = d.directories;
+      name = d.name;
+      old
+          = x;
+      new = c.new;
+    } in t) i
+    ∙ ap (λ (x : Option Item). let t : Change = record {
+      directory = d.directory;
+      directories = d.directories;
+      name = d.name;
+      old
+          = d.old;
+      new = x;
+    } in t) j
 
 module _ (kind : Kind) (world : World) (old new : Option (List ℕ)) (found : List Change) (p : Pending) (ps : List Pending)
     (h : IsFoundIn world old new found (p ∷ ps)) (a b : Option TreeEntry) (old_bytes new_bytes name : List ℕ) (directory : Bool)
     (next : IsNext kind p.olds p.news a b old_bytes new_bytes name directory) where
-
   abbrev here : Change
   here = change_at p.directories a b name directory
 
@@ -162,11 +196,11 @@ module _ (kind : Kind) (world : World) (old new : Option (List ℕ)) (found : Li
   split_leaf : directory ≡ false → (d : Change) → IsLeft world (p ∷ ps) d → (d ≡ here) ⊎ IsLeft world (rest ∷ ps) d
   split_leaf e d (inl l) =
       elim ((next.step world (under l.0 d)).0 l.2) [
-        inl x ↦ elim x [
-          inl i ↦ inl (same_here d l.0 l.1 i)
-        | inr i ↦ absurd (not_below (under l.0 d) e i)
+        | inl x ↦ elim x [
+          | inl i ↦ inl (same_here d l.0 l.1 i)
+          | inr i ↦ absurd (not_below (under l.0 d) e i)
         ]
-      | inr y ↦ inr (inl (l.0, l.1, y))
+        | inr y ↦ inr (inl (l.0, l.1, y))
       ]
   split_leaf e d (inr l) = inr (inr l)
 
@@ -187,19 +221,19 @@ module _ (kind : Kind) (world : World) (old new : Option (List ℕ)) (found : Li
   module _ (old_entries new_entries : List ℕ) (xs ys : List TreeEntry) (are_xs : AreEntriesAnd kind old_entries xs [])
       (are_ys : AreEntriesAnd kind new_entries ys []) (xs_are : entries_of world (id_of (option_map item_of a)) ≡ xs)
       (ys_are : entries_of world (id_of (option_map item_of b)) ≡ ys) (e : directory ≡ true) where
-
     abbrev below : Pending
     below = record { directories = p.directories ++ name ∷ []; olds = xs; news = ys }
 
-    is_below : (d : Change) (r : List (List ℕ)) → IsChange world xs ys (under r d) → IsBelow world a b name directory (under (name ∷ r) d)
+    is_below : (d : Change) (r : List (List ℕ)) → IsChange world xs ys (under r d)
+        → IsBelow world a b name directory (under (name ∷ r) d)
     is_below d r change = record {
       directory_is = e;
       rest = r;
       directories_are = refl;
       change =
-      let P : List TreeEntry → Type 0 = λ t. IsChange world t (entries_of world (id_of (option_map item_of b))) (under r d) in
-      let Q : List TreeEntry → Type 0 = λ t. IsChange world xs t (under r d) in
-      subst P (sym xs_are) (subst Q (sym ys_are) change);
+          let P : List TreeEntry → Type 0 = λ t. IsChange world t (entries_of world (id_of (option_map item_of b))) (under r d) in
+          let Q : List TreeEntry → Type 0 = λ t. IsChange world xs t (under r d) in
+          subst P (sym xs_are) (subst Q (sym ys_are) change);
     }
 
     below_directories : (d : Change) (r : List (List ℕ)) → d.directories ≡ (p.directories ++ name ∷ []) ++ r
@@ -221,14 +255,15 @@ module _ (kind : Kind) (world : World) (old new : Option (List ℕ)) (found : Li
           | Some x ↦ λ f.
               let k = at_key world d.directory xs r d.name x (change.0 ∙ f) in
               subst (λ t. 0 < length t) (sym k.whole)
-              (key_some k.entry k.rest (All-contains (λ e. IsName e.name) xs k.entry (names_all kind old_entries xs are_xs) k.among))
+              (key_some k.entry k.rest (All-contains (λ e. IsName e.name) xs k.entry (names_all kind old_entries xs are_xs)
+              k.among))
           | None ↦ λ f.
               elim d.new as (λ o. d.new ≡ o → 0 < length (change_key (under r d))) [
                 | Some x ↦ λ g.
                     let k = at_key world d.directory ys r d.name x (change.1 ∙ g) in
                     subst (λ t. 0 < length t) (sym k.whole)
                     (key_some k.entry k.rest
-                      (All-contains (λ e. IsName e.name) ys k.entry (names_all kind new_entries ys are_ys) k.among))
+                    (All-contains (λ e. IsName e.name) ys k.entry (names_all kind new_entries ys are_ys) k.among))
                 | None ↦ λ g. absurd (change.2 (f ∙ sym g))
               ] refl
         ] refl
@@ -241,14 +276,14 @@ module _ (kind : Kind) (world : World) (old new : Option (List ℕ)) (found : Li
     below_key_is d r f =
         lifted (p.directories ++ name ∷ []) r d f
         ∙ ap (λ t. t ++ change_key (under r d)) (flat_map-append (λ n. n ++ 47 ∷ []) p.directories (name ∷ [])
-          ∙ ap (λ t. slashed p.directories ++ t) (append-nil (name ++ 47 ∷ [])))
+        ∙ ap (λ t. slashed p.directories ++ t) (append-nil (name ++ 47 ∷ [])))
 
     here_before_below : (d : Change) → IsLeftIn world below d → IsEarlier here d
     here_before_below d l =
         let P : List ℕ → Type 0 = λ t. slice_cmp nat_cmp t (change_key d) ≡ Less in
         let Q : List ℕ → Type 0 = λ t. slice_cmp nat_cmp (slashed p.directories ++ (name ++ 47 ∷ [])) t ≡ Less in
         subst P (sym here_key_is) (subst Q (sym (below_key_is d l.0 l.1))
-          (longer_later (slashed p.directories ++ (name ++ 47 ∷ [])) (change_key (under l.0 d)) (some_key d l.0 l.2)))
+        (longer_later (slashed p.directories ++ (name ++ 47 ∷ [])) (change_key (under l.0 d)) (some_key d l.0 l.2)))
 
     abbrev left : List Pending
     left = below ∷ (rest ∷ ps)
@@ -258,22 +293,26 @@ module _ (kind : Kind) (world : World) (old new : Option (List ℕ)) (found : Li
     tree_sub d (inr (inl l)) = inl (rest_in d l)
     tree_sub d (inr (inr l)) = inr l
 
-    was_below : (d : Change) (r : List (List ℕ)) → d.directories ≡ p.directories ++ r → IsBelow world a b name directory (under r d)
+    was_below : (d : Change) (r : List (List ℕ)) → d.directories ≡ p.directories ++ r
+        → IsBelow world a b name directory (under r d)
         → IsLeftIn world below d
     was_below d r f i =
-        let P : List TreeEntry → Type 0 = λ t. IsChange world t (entries_of world (id_of (option_map item_of b))) (under i.rest d) in
-        let Q : List TreeEntry → Type 0 = λ t. IsChange world xs t (under i.rest d) in
-        (i.rest, f ∙ ap (λ t. p.directories ++ t) i.directories_are ∙ sym (append_assoc p.directories (name ∷ []) i.rest),
-          subst Q ys_are (subst P xs_are i.change))
+        let P : List TreeEntry → Type 0 = λ t. IsChange world t (entries_of world (id_of (option_map item_of b))) (under i.rest
+        d) in
+        let Q : List TreeEntry → Type 0 = λ t. IsChange world xs t (under i.rest d) in (
+          i.rest,
+          f ∙ ap (λ t. p.directories ++ t) i.directories_are ∙ sym (append_assoc p.directories (name ∷ []) i.rest),
+          subst Q ys_are (subst P xs_are i.change),
+        )
 
     tree_split : (d : Change) → IsLeft world (p ∷ ps) d → (d ≡ here) ⊎ IsLeft world left d
     tree_split d (inl l) =
         elim ((next.step world (under l.0 d)).0 l.2) [
-          inl x ↦ elim x [
-            inl i ↦ inl (same_here d l.0 l.1 i)
-          | inr i ↦ inr (inl (was_below d l.0 l.1 i))
+          | inl x ↦ elim x [
+            | inl i ↦ inl (same_here d l.0 l.1 i)
+            | inr i ↦ inr (inl (was_below d l.0 l.1 i))
           ]
-        | inr y ↦ inr (inr (inl (l.0, l.1, y)))
+          | inr y ↦ inr (inr (inl (l.0, l.1, y)))
         ]
     tree_split d (inr l) = inr (inr (inr l))
 

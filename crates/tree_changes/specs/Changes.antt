@@ -1,5 +1,5 @@
 -- What changes from one tree to another.
-use Rattle.std.specs.Prelude.{◌≡◌, ◌≢◌, ◌<◌, ◌≤◌, ◌+◌, ◌⊎◌, ⊤, ℕ, List, [], ◌∷◌, ◌++◌, All, Contains, length, Option, Some, None}
+use Rattle.std.specs.Prelude.{◌≡◌, ◌≢◌, ◌<◌, ◌≤◌, ◌+◌, ◌⊎◌, ⊤, ℕ, List, [], ◌∷◌, All, Contains, length, Option, Some, None}
 use Rattle.std.specs.List.{sum_by}
 use Rattle.std.specs.Ordering.{nat_cmp}
 use Rattle.std.specs.Cmp.Lexicographic.{slice_cmp}
@@ -10,9 +10,9 @@ use Rattle.tree_changes.specs.declared.changes.Refusal.{Refusal}
 use Rattle.tree_changes.specs.declared.changes.Refusal.TheVariants.{TooMany, TooDeep, TooMuch, Source, OutOfMemory}
 
 -- each of these texts comes before all that follow it, in the order of their bytes
-abbrev pub IsRising : List (List ℕ) → Type 0
-IsRising [] = ⊤
-IsRising (first ∷ texts) = All (λ text. slice_cmp nat_cmp first text ≡ Less) texts × IsRising texts
+abbrev pub AreRisingTexts : List (List ℕ) → Type 0
+AreRisingTexts [] = ⊤
+AreRisingTexts (first ∷ texts) = All (λ text. slice_cmp nat_cmp first text ≡ Less) texts × AreRisingTexts texts
 
 -- The text is a path that is changed, whose names are names of entries.
 pub record IsChangedText (world : World) (old new : Option (List ℕ)) (text : List ℕ) : Type 0 where
@@ -24,14 +24,14 @@ pub record IsChangedText (world : World) (old new : Option (List ℕ)) (text : L
 
 -- These are the paths that are changed, each once, in the order of their bytes.
 pub record AreChanged (world : World) (old new : Option (List ℕ)) (texts : List (List ℕ)) : Type 0 where
-  pub rising : IsRising texts
+  pub rising : AreRisingTexts texts
   pub each : All (IsChangedText world old new) texts
   pub all : (path : TreePath) → IsChanged world old new path → Contains texts (joined path)
 
 -- More than so many paths are changed.
 pub record AreMore (world : World) (old new : Option (List ℕ)) (most : ℕ) : Type 0 where
   pub texts : List (List ℕ)
-  pub rising : IsRising texts
+  pub rising : AreRisingTexts texts
   pub each : All (IsChangedText world old new) texts
   pub more : most < length texts
 
@@ -73,7 +73,8 @@ IsNeeded world old new id =
     ⊎ ((path : TreePath) × HasOtherDirectory world old new path × IsIdAt world old new path id)
 
 -- why the paths are not told
-abbrev pub IsRefusal : {E : Type 0} → (List ℕ → E → Type 0) → ℕ → ℕ → ℕ → World → Option (List ℕ) → Option (List ℕ) → Refusal E → Type 0
+abbrev pub IsRefusal : {E : Type 0} → (List ℕ → E → Type 0) → ℕ → ℕ → ℕ → World → Option (List ℕ) → Option (List ℕ)
+    → Refusal E → Type 0
 IsRefusal refused paths names trees world old new TooMany = AreMore world old new paths
 IsRefusal refused paths names trees world old new TooDeep = IsDeeper world old new names
 IsRefusal refused paths names trees world old new TooMuch = IsMuch world old new trees

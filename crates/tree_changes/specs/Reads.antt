@@ -1,5 +1,5 @@
 -- What the way through two trees comes to, step by step.
-use Rattle.std.specs.Prelude.{◌≡◌, ◌<◌, ◌≤◌, ◌+◌, ◌⊎◌, ⊤, ℕ, Bool, true, false, List, [], ◌∷◌, ◌++◌, Option, Some, None}
+use Rattle.std.specs.Prelude.{◌≡◌, ◌<◌, ◌+◌, ◌⊎◌, ⊤, ℕ, Bool, true, false, List, [], ◌∷◌, ◌++◌, Option, Some}
 use Rattle.gix_hash_core.specs.declared.kind.Kind.{Kind}
 use Rattle.tree_objects.specs.Tree.{TreeEntry, IsTree}
 use Rattle.tree_changes.specs.Stands.{World, entries_of}
@@ -23,12 +23,13 @@ IsTreeReadRefusal refused id trees (Source error) = (i : List ℕ) × (id ≡ So
 IsTreeReadRefusal refused id trees OutOfMemory = ⊤
 
 -- A level has two trees whole.
-pub record IsReadLevel (kind : Kind) (says : World → Type 0) (old new : Option (List ℕ)) (prefix : ℕ) (level : Level) : Type 0 where
-  pub old_tree : IsReadTree kind says old level.old.items
-  pub new_tree : IsReadTree kind says new level.new.items
-  pub old_at : level.old_at ≡ 0
-  pub new_at : level.new_at ≡ 0
-  pub prefix_is : level.prefix ≡ prefix
+pub record IsReadLevel (kind : Kind) (says : World → Type 0) (old new : Option (List ℕ)) (prefix : ℕ) (level : Level) : Type 0
+  where
+    pub old_tree : IsReadTree kind says old level.old.items
+    pub new_tree : IsReadTree kind says new level.new.items
+    pub old_at : level.old_at ≡ 0
+    pub new_at : level.new_at ≡ 0
+    pub prefix_is : level.prefix ≡ prefix
 
 -- why two trees were not read
 abbrev pub IsReadRefusal : {E : Type 0} → (List ℕ → E → Type 0) → Option (List ℕ) → Option (List ℕ) → ℕ → Refusal E → Type 0
@@ -48,7 +49,8 @@ pub record IsFoundThen (kind : Kind) (says : World → Type 0) (old new : Option
   pub texts_all : more ≡ false → (leaf_texts found_then ≡ leaf_texts found) × (levels ≡ [])
 
 -- why the way stopped
-abbrev pub IsStopped : {E : Type 0} → (List ℕ → E → Type 0) → ℕ → ℕ → World → Option (List ℕ) → Option (List ℕ) → Refusal E → Type 0
+abbrev pub IsStopped : {E : Type 0} → (List ℕ → E → Type 0) → ℕ → ℕ → World → Option (List ℕ) → Option (List ℕ) → Refusal E
+    → Type 0
 IsStopped refused names trees world old new TooMany = ⊥
 IsStopped refused names trees world old new TooDeep = IsDeeper world old new names
 IsStopped refused names trees world old new TooMuch = IsMuch world old new trees

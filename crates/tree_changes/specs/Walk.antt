@@ -1,6 +1,6 @@
 -- Two trees gone through side by side: what differs, and what is left.
-use Rattle.std.specs.Prelude.{◌≡◌, ◌≢◌, ◌<◌, ◌≤◌, ◌+◌, ◌⊎◌, ⊤, ◌↔◌, ℕ, Bool, true, false, cond, List, [], ◌∷◌, ◌++◌, All, Contains}
-use Rattle.std.specs.Prelude.{length, take, drop, Option, Some, None, option_map, IfSome, Vec}
+use Rattle.std.specs.Prelude.{◌≡◌, ◌≢◌, ◌≤◌, ◌+◌, ◌⊎◌, ⊤, ◌↔◌, ℕ, Bool, true, cond, List, [], ◌∷◌, ◌++◌, All, Contains}
+use Rattle.std.specs.Prelude.{length, take, drop, Option, option_map, IfSome}
 use Rattle.std.specs.List.{sum_by}
 use Rattle.std.specs.Option.{option_to_list}
 use Rattle.std.specs.Ordering.{nat_cmp}
@@ -8,7 +8,7 @@ use Rattle.std.specs.Cmp.Lexicographic.{slice_cmp}
 use Rattle.std.specs.declared.cmp.Ordering.TheVariants.{Less}
 use Rattle.gix_hash_core.specs.declared.kind.Kind.{Kind}
 use Rattle.tree_objects.specs.Tree.{TreeEntry, AreEntriesAnd, IsName, key_of}
-use Rattle.tree_objects.specs.Tree.{IsRising as AreInOrder}
+use Rattle.tree_objects.specs.Tree.{AreInOrder}
 use Rattle.tree_changes.specs.Stands.{World, Item, item_of, item_at, id_of, entries_of, is_directory, slashed}
 use Rattle.tree_changes.specs.Changes.{one_if_some}
 use Rattle.tree_changes.specs.declared.trees.Level.{Level}
@@ -56,7 +56,8 @@ pub record IsBelow (world : World) (old new : Option TreeEntry) (name : List ℕ
   pub directory_is : directory ≡ true
   pub rest : List (List ℕ)
   pub directories_are : c.directories ≡ name ∷ rest
-  pub change : IsChange world (entries_of world (id_of (option_map item_of old))) (entries_of world (id_of (option_map item_of new))) (under rest c)
+  pub change : IsChange world (entries_of world (id_of (option_map item_of old))) (entries_of world (id_of (option_map item_of
+      new))) (under rest c)
 
 abbrev pub IsHere : World → Option TreeEntry → Option TreeEntry → List ℕ → Bool → Change → Type 0
 IsHere world old new name directory c = IsItself old new name directory c ⊎ IsBelow world old new name directory c
@@ -66,7 +67,8 @@ abbrev pub IsEnd : List ℕ → List ℕ → Type 0
 IsEnd bytes end = (front : List ℕ) × (bytes ≡ front ++ end)
 
 -- One side of a pair: its entries are the first, where it is of the name, and others, all behind the name.
-pub record IsSide (kind : Kind) (entries : List TreeEntry) (first : Option TreeEntry) (bytes name : List ℕ) (directory : Bool) : Type 0 where
+pub record IsSide (kind : Kind) (entries : List TreeEntry) (first : Option TreeEntry) (bytes name : List ℕ) (directory : Bool) :
+    Type 0 where
   pub rest : List TreeEntry
   pub all : entries ≡ option_to_list first ++ rest
   pub entries_are : AreEntriesAnd kind bytes rest []
@@ -86,9 +88,9 @@ pub record IsNext (kind : Kind) (olds news : List TreeEntry) (old new : Option T
   pub named : IsName name
   pub differ : option_map item_of old ≢ option_map item_of new
   pub step : (world : World) (c : Change)
-    → IsChange world olds news c ↔ (IsHere world old new name directory c ⊎ IsChange world olds_rest news_rest c)
+      → IsChange world olds news c ↔ (IsHere world old new name directory c ⊎ IsChange world olds_rest news_rest c)
   pub earlier : (world : World) (c d : Change) → IsHere world old new name directory c → IsChange world olds_rest news_rest d
-    → IsEarlier c d
+      → IsEarlier c d
 
 -- What is left of two trees side by side: entries of both, below these directories.
 pub record Pending : Type 0 where

@@ -1,6 +1,6 @@
 //! The paths that change from one tree to another.
 
-ghost use Rattle.std.specs.Prelude.{◌≡◌, ℕ, List, IfOk, IfErr, Some, map, option_map};
+ghost use Rattle.std.specs.Prelude.{◌≡◌, ◌≤◌, ℕ, List, length, IfOk, IfErr, Some, map, option_map};
 ghost use Rattle.gix_hash_core.specs.Oid.{oid_bytes};
 ghost use Rattle.tree_changes.specs.Stands.{World};
 ghost use Rattle.tree_changes.specs.Changes.{AreChanged, IsRefusal};
@@ -69,10 +69,11 @@ pub fn changed_paths<S: TreeSource>(
     ensures kept { (world : World) → S.says source.new world → S.says source.old world }
     ensures changed { IfOk result (λ paths. (world : World) → S.says source.new world
         → AreChanged world (option_map oid_bytes old.entry) (Some (oid_bytes new.entry))
-            (map (λ path. path.items) paths.items)) }
+        (map (λ path. path.items) paths.items)) }
+    ensures few { IfOk result (λ paths. length paths.items ≤ limits.paths) }
     ensures refused { IfErr result (λ refusal. (world : World) → S.says source.new world
         → IsRefusal (S.has_refused source.new) limits.paths limits.names limits.trees world
-            (option_map oid_bytes old.entry) (Some (oid_bytes new.entry)) refusal) }
+        (option_map oid_bytes old.entry) (Some (oid_bytes new.entry)) refusal) }
 {
     let mut found = Vec::new(alloc);
     let Some(mut walk) = Walk::begin(alloc, source, old, new, limits)? else {

@@ -2,16 +2,16 @@
 
 ghost use Rattle.std.specs.Prelude.{◌≡◌, ◌≢◌, ◌<◌, ◌+◌, ◌↔◌, ℕ, List, [], MatchOption, IfSome};
 ghost use Rattle.std.specs.Prelude.{IsTrue, length, option_map};
+ghost use Rattle.gix_hash_core.specs.declared.kind.Kind.{Kind as HashKind};
 ghost use Rattle.tree_objects.specs.Entry.{entry_of};
-ghost use Rattle.tree_objects.specs.Tree.{TreeEntry, AreEntriesAnd};
-ghost use Rattle.tree_objects.specs.Tree.{IsRising as AreInOrder};
+ghost use Rattle.tree_objects.specs.Tree.{TreeEntry, BeginsWithEntry, AreEntriesAnd, AreInOrder};
 ghost use Rattle.tree_changes.specs.Stands.{World, item_of, is_directory};
 ghost use Rattle.tree_changes.specs.Walk.{Change, IsChange, IsSide, IsNext, IsEnd};
 ghost use Rattle.tree_objects.specs.Tree.{IsName};
 
 use gix_hash_core::Kind;
 use std::cmp::Ordering;
-use tree_objects::{Entry, EntryKind, order, split_entry};
+use tree_objects::{Entry, EntryKind, SplitEntry, order, split_entry};
 
 /// What stands at one name in two trees, directories or what is none, and what follows it.
 #[derive(Clone, Copy)]
@@ -29,8 +29,8 @@ pub(crate) fn next_difference<'a>(kind: Kind, old: &'a [u8], new: &'a [u8]) -> O
     ensures pair { (olds news : List TreeEntry) → AreEntriesAnd kind old.now olds []
         → AreEntriesAnd kind new.now news [] → AreInOrder olds → AreInOrder news
         → MatchOption result ((world : World) (c : Change) → ¬ IsChange world olds news c)
-            (λ p. IsNext kind olds news (option_map entry_of p.old) (option_map entry_of p.new)
-                p.old_rest.now p.new_rest.now p.name.now p.directory) }
+        (λ p. IsNext kind olds news (option_map entry_of p.old) (option_map entry_of p.new)
+        p.old_rest.now p.new_rest.now p.name.now p.directory) }
     ensures old_end { IfSome result (λ p. IsEnd old.now p.old_rest.now) }
     ensures new_end { IfSome result (λ p. IsEnd new.now p.new_rest.now) }
     ensures differ { IfSome result (λ p. option_map item_of (option_map entry_of p.old)
@@ -53,9 +53,9 @@ fn next_pair<'a>(kind: Kind, old: &'a [u8], new: &'a [u8]) -> Option<Pair<'a>>
     ensures pair { (olds news : List TreeEntry) → AreEntriesAnd kind old.now olds []
         → AreEntriesAnd kind new.now news [] → AreInOrder olds → AreInOrder news
         → MatchOption result ((olds ≡ []) × (news ≡ []))
-            (λ p. IsSide kind olds (option_map entry_of p.old) p.old_rest.now p.name.now p.directory
-                × IsSide kind news (option_map entry_of p.new) p.new_rest.now p.name.now p.directory
-                × IsName p.name.now) }
+        (λ p. IsSide kind olds (option_map entry_of p.old) p.old_rest.now p.name.now p.directory
+        × IsSide kind news (option_map entry_of p.new) p.new_rest.now p.name.now p.directory
+        × IsName p.name.now) }
     ensures shorter { IfSome result (λ p. length p.old_rest.now + length p.new_rest.now
         < length old.now + length new.now) }
     ensures old_end { IfSome result (λ p. IsEnd old.now p.old_rest.now) }
@@ -74,35 +74,63 @@ fn next_pair<'a>(kind: Kind, old: &'a [u8], new: &'a [u8]) -> Option<Pair<'a>>
             directory: is_directory(b.entry.kind),
         });
     };
-    let alone = Pair {
-        old: Some(a.entry),
-        new: None,
-        old_rest: a.next,
-        new_rest: new,
-        name: a.entry.name,
-        directory: is_directory(a.entry.kind),
-    };
     let Some(b) = split_entry(kind, new) else {
-        return Some(alone);
+        return Some(Pair {
+            old: Some(a.entry),
+            new: None,
+            old_rest: a.next,
+            new_rest: new,
+            name: a.entry.name,
+            directory: is_directory(a.entry.kind),
+        });
     };
+    Some(first_of(old, a, new, b))
+}
+
+/// Which of two entries stands first, with which two trees begin, or both at one name.
+fn first_of<'a>(old: &'a [u8], a: SplitEntry<'a>, new: &'a [u8], b: SplitEntry<'a>) -> Pair<'a>
+    ensures pair { (kind : HashKind)
+        → BeginsWithEntry kind old.now (entry_of a.entry.entry) a.entry.next.now
+        → BeginsWithEntry kind new.now (entry_of b.entry.entry) b.entry.next.now
+        → (olds news : List TreeEntry) → AreEntriesAnd kind old.now olds []
+        → AreEntriesAnd kind new.now news [] → AreInOrder olds → AreInOrder news
+        → IsSide kind olds (option_map entry_of result.old) result.old_rest.now result.name.now
+        result.directory
+        × IsSide kind news (option_map entry_of result.new) result.new_rest.now result.name.now
+        result.directory
+        × IsName result.name.now }
+    ensures shorter { length a.entry.next.now < length old.now
+        → length b.entry.next.now < length new.now
+        → length result.old_rest.now + length result.new_rest.now
+        < length old.now + length new.now }
+    ensures old_end { IsEnd old.now a.entry.next.now → IsEnd old.now result.old_rest.now }
+    ensures new_end { IsEnd new.now b.entry.next.now → IsEnd new.now result.new_rest.now }
+{
     match order(a.entry, b.entry) {
-        Ordering::Less => Some(alone),
-        Ordering::Greater => Some(Pair {
+        Ordering::Less => Pair {
+            old: Some(a.entry),
+            new: None,
+            old_rest: a.next,
+            new_rest: new,
+            name: a.entry.name,
+            directory: is_directory(a.entry.kind),
+        },
+        Ordering::Greater => Pair {
             old: None,
             new: Some(b.entry),
             old_rest: old,
             new_rest: b.next,
             name: b.entry.name,
             directory: is_directory(b.entry.kind),
-        }),
-        Ordering::Equal => Some(Pair {
+        },
+        Ordering::Equal => Pair {
             old: Some(a.entry),
             new: Some(b.entry),
             old_rest: a.next,
             new_rest: b.next,
             name: a.entry.name,
             directory: is_directory(a.entry.kind),
-        }),
+        },
     }
 }
 

@@ -12,4 +12,3 @@ mod walk;
 
 pub use changes::{Limits, Refusal, changed_paths};
 pub use source::TreeSource;
-

@@ -7,7 +7,8 @@ ghost use Rattle.tree_objects.specs.Entry.{entry_of};
 ghost use Rattle.tree_changes.specs.Stands.{World, item_of, id_of};
 ghost use Rattle.tree_changes.specs.Changes.{one_if_some};
 ghost use Rattle.tree_changes.specs.Walk.{Change, IsFoundSoFar};
-ghost use Rattle.tree_changes.specs.Reads.{IsReadTree, IsTreeReadRefusal, IsReadLevel, IsReadRefusal};
+ghost use Rattle.tree_changes.specs.Reads.{IsReadTree, IsTreeReadRefusal};
+ghost use Rattle.tree_changes.specs.Reads.{IsReadLevel, IsReadRefusal};
 ghost use Rattle.tree_changes.specs.Reads.{IsFoundThen, IsStopped};
 
 use crate::changes::{Limits, Refusal};
@@ -45,11 +46,11 @@ impl Walk {
         ensures found { IfOk result (λ found. MatchOption found
             (option_map oid_bytes old.entry ≡ Some (oid_bytes new.entry))
             (λ walk. IsFoundSoFar (S.kind_is source.old) (S.says source.new)
-                (option_map oid_bytes old.entry) (Some (oid_bytes new.entry)) limits.trees []
-                walk.path.items walk.levels.items walk.trees × (walk.names ≡ limits.names))) }
+            (option_map oid_bytes old.entry) (Some (oid_bytes new.entry)) limits.trees []
+            walk.path.items walk.levels.items walk.trees × (walk.names ≡ limits.names))) }
         ensures refused { IfErr result (λ refusal. (world : World) → S.says source.new world
             → IsStopped (S.has_refused source.new) limits.names limits.trees world
-                (option_map oid_bytes old.entry) (Some (oid_bytes new.entry)) refusal) }
+            (option_map oid_bytes old.entry) (Some (oid_bytes new.entry)) refusal) }
     {
         let old = bytes_of(old);
         let new = new.as_bytes();
@@ -86,14 +87,16 @@ impl Walk {
         ensures kind { S.kind_is source.new ≡ S.kind_is source.old }
         ensures kept { (world : World) → S.says source.new world → S.says source.old world }
         ensures names { self.new.names ≡ self.old.names }
-        ensures found { IfOk result (λ more. (old new : Option (List ℕ)) (budget : ℕ) (found : List Change)
+        ensures found { IfOk result (λ more. (old new : Option (List ℕ)) (budget : ℕ)
+            (found : List Change)
             → IsFoundSoFar (S.kind_is source.old) (S.says source.old) old new budget found
-                self.old.path.items self.old.levels.items self.old.trees
+            self.old.path.items self.old.levels.items self.old.trees
             → IsFoundThen (S.kind_is source.old) (S.says source.new) old new budget found more
-                self.new.path.items self.new.levels.items self.new.trees) }
-        ensures refused { IfErr result (λ refusal. (old new : Option (List ℕ)) (budget : ℕ) (found : List Change)
+            self.new.path.items self.new.levels.items self.new.trees) }
+        ensures refused { IfErr result (λ refusal. (old new : Option (List ℕ)) (budget : ℕ)
+            (found : List Change)
             → IsFoundSoFar (S.kind_is source.old) (S.says source.old) old new budget found
-                self.old.path.items self.old.levels.items self.old.trees
+            self.old.path.items self.old.levels.items self.old.trees
             → (world : World) → S.says source.new world
             → IsStopped (S.has_refused source.new) self.old.names budget world old new refusal) }
     {
@@ -143,7 +146,8 @@ fn bytes_of(id: Option<oid<'_>>) -> Option<&[u8]>
 
 /// The id of an entry, where there is one.
 fn id_in(entry: Option<Entry<'_>>) -> Option<&[u8]>
-    ensures { option_map (λ id. id.now) result ≡ id_of (option_map item_of (option_map entry_of entry.entry)) }
+    ensures { option_map (λ id. id.now) result
+        ≡ id_of (option_map item_of (option_map entry_of entry.entry)) }
 {
     match entry {
         Some(entry) => Some(entry.id),
@@ -163,7 +167,8 @@ fn read_level<S: TreeSource>(
 ) -> Result<Level, Refusal<S::Error>>
     ensures kind { S.kind_is source.new ≡ S.kind_is source.old }
     ensures kept { (world : World) → S.says source.new world → S.says source.old world }
-    ensures trees { IfOk result (λ _. trees.new + one_if_some old.entry + one_if_some new.entry ≡ trees.old) }
+    ensures trees { IfOk result (λ _. trees.new + one_if_some old.entry + one_if_some new.entry
+        ≡ trees.old) }
     ensures read { IfOk result (λ level. IsReadLevel (S.kind_is source.old) (S.says source.new)
         (option_map (λ id. id.now) old.entry) (option_map (λ id. id.now) new.entry) prefix level) }
     ensures refused { IfErr result (IsReadRefusal (S.has_refused source.new)

@@ -1,7 +1,9 @@
 -- bytes are read as entries in one way
-use Rattle.std.proofs.Common.{◌≡◌, ◌≢◌, ℕ, ◌+◌, ◌<◌, List, [], ◌∷◌, ◌++◌, length, length-append, append-nil, append_assoc, refl, sym, ap, ◌∙◌, subst, ◌⊎◌, inl, inr, arith}
+use Rattle.std.proofs.Common.{◌≡◌, ℕ, List, [], ◌∷◌, ◌++◌, length, length-append, append-nil, append_assoc, refl, sym, ap, ◌∙◌}
+use Rattle.std.proofs.Common.{subst, ◌⊎◌, inl, inr, arith}
 use Rattle.gix_hash_core.specs.declared.kind.Kind.{Kind}
-use Rattle.tree_objects.specs.Tree.{TreeEntry, BeginsWithEntry, AreEntriesAnd, IsBefore, IsRising, IsTree, IsUnreadableAt, IsOutOfOrderAt}
+use Rattle.tree_objects.specs.Tree.{TreeEntry, BeginsWithEntry, AreEntriesAnd, StandsBefore, AreInOrder, IsTree, IsUnreadableAt}
+use Rattle.tree_objects.specs.Tree.{IsOutOfOrderAt}
 use Rattle.tree_objects.specs.Refusal.{IsTreeRefusal}
 use Rattle.tree_objects.specs.declared.check.TreeError.{TreeError}
 use Rattle.tree_objects.specs.declared.check.TreeError.TheVariants.{Unreadable, Order}
@@ -23,16 +25,16 @@ one_goes_on kind bytes (a ∷ xs) [] x y h k =
 one_goes_on kind bytes (a ∷ xs) (b ∷ ys) x y h k =
     let same = one_entry kind bytes a b h.0 k.0 h.1 k.1 in
     elim (one_goes_on kind h.0 xs ys x y h.2 (subst (λ t. AreEntriesAnd kind t ys y) (sym same.next) k.2)) [
-      inl f ↦ inl (record {
-          more = f.more;
-          all = ap (λ t. t ∷ ys) (sym same.entry) ∙ ap (λ t. a ∷ t) f.all;
-          read = f.read;
-        })
-    | inr f ↦ inr (record {
-          more = f.more;
-          all = ap (λ t. t ∷ xs) same.entry ∙ ap (λ t. b ∷ t) f.all;
-          read = f.read;
-        })
+      | inl f ↦ inl (record {
+        more = f.more;
+        all = ap (λ t. t ∷ ys) (sym same.entry) ∙ ap (λ t. a ∷ t) f.all;
+        read = f.read;
+      })
+      | inr f ↦ inr (record {
+        more = f.more;
+        all = ap (λ t. t ∷ xs) same.entry ∙ ap (λ t. b ∷ t) f.all;
+        read = f.read;
+      })
     ]
 
 -- no bytes are no entries
@@ -47,13 +49,13 @@ none_there : (kind : Kind) (bytes : List ℕ) (more : List TreeEntry) (y : List 
 none_there kind bytes [] y none h = refl
 none_there kind bytes (a ∷ more) y none h = absurd (none a h.0 h.1)
 
-pub rest_rising : (a : TreeEntry) (entries : List TreeEntry) → IsRising (a ∷ entries) → IsRising entries
+pub rest_rising : (a : TreeEntry) (entries : List TreeEntry) → AreInOrder (a ∷ entries) → AreInOrder entries
 rest_rising a [] rising = tt
 rest_rising a (b ∷ entries) rising = rising.1
 
 -- neighbours in order
 pub rising_pair : (front : List TreeEntry) (a b : TreeEntry) (more : List TreeEntry)
-    → IsRising ((front ++ a ∷ b ∷ []) ++ more) → IsBefore a b
+    → AreInOrder ((front ++ a ∷ b ∷ []) ++ more) → StandsBefore a b
 rising_pair [] a b more rising = rising.0
 rising_pair (c ∷ front) a b more rising =
     rising_pair front a b more (rest_rising c ((front ++ a ∷ b ∷ []) ++ more) rising)
@@ -62,28 +64,29 @@ rising_pair (c ∷ front) a b more rising =
 pub one_tree : (kind : Kind) (bytes : List ℕ) (xs ys : List TreeEntry) → IsTree kind bytes xs → IsTree kind bytes ys → xs ≡ ys
 one_tree kind bytes xs ys h k =
     elim (one_goes_on kind bytes xs ys [] [] h.are_entries k.are_entries) [
-      inl f ↦ sym (f.all ∙ ap (λ t. xs ++ t) (none_in_nothing kind f.more [] f.read) ∙ append-nil xs)
-    | inr f ↦ f.all ∙ ap (λ t. ys ++ t) (none_in_nothing kind f.more [] f.read) ∙ append-nil ys
+      | inl f ↦ sym (f.all ∙ ap (λ t. xs ++ t) (none_in_nothing kind f.more [] f.read) ∙ append-nil xs)
+      | inr f ↦ f.all ∙ ap (λ t. ys ++ t) (none_in_nothing kind f.more [] f.read) ∙ append-nil ys
     ]
 
 unreadable_is_none : (kind : Kind) (bytes : List ℕ) (n : ℕ) (entries : List TreeEntry) → IsUnreadableAt kind bytes n
     → IsTree kind bytes entries → ⊥
 unreadable_is_none kind bytes n entries u h =
     elim (one_goes_on kind bytes u.entries entries u.rest [] u.read h.are_entries) [
-      inl f ↦ u.more (subst (λ t. AreEntriesAnd kind u.rest t []) (none_there kind u.rest f.more [] u.no_entry f.read) f.read)
-    | inr f ↦ u.more (sym (subst (λ t. AreEntriesAnd kind [] t u.rest) (none_in_nothing kind f.more u.rest f.read) f.read))
+      | inl f ↦ u.more (subst (λ t. AreEntriesAnd kind u.rest t []) (none_there kind u.rest f.more [] u.no_entry f.read) f.read)
+      | inr f ↦ u.more (sym (subst (λ t. AreEntriesAnd kind [] t u.rest) (none_in_nothing kind f.more u.rest f.read) f.read))
     ]
 
 out_of_order_is_none : (kind : Kind) (bytes : List ℕ) (n : ℕ) (entries : List TreeEntry) → IsOutOfOrderAt kind bytes n
     → IsTree kind bytes entries → ⊥
 out_of_order_is_none kind bytes n entries o h =
     elim (one_goes_on kind bytes (o.entries ++ o.last ∷ o.entry ∷ []) entries o.rest [] o.read h.are_entries) [
-      inl f ↦ o.not_behind (rising_pair o.entries o.last o.entry f.more (subst IsRising f.all h.rising))
-    | inr f ↦
-        let all : (o.entries ++ o.last ∷ o.entry ∷ []) ++ [] ≡ entries =
-        append-nil (o.entries ++ o.last ∷ o.entry ∷ []) ∙ f.all ∙ ap (λ t. entries ++ t) (none_in_nothing kind f.more o.rest f.read)
-        ∙ append-nil entries in
-        o.not_behind (rising_pair o.entries o.last o.entry [] (subst IsRising (sym all) h.rising))
+      | inl f ↦ o.not_behind (rising_pair o.entries o.last o.entry f.more (subst AreInOrder f.all h.rising))
+      | inr f ↦
+          let all : (o.entries ++ o.last ∷ o.entry ∷ []) ++ [] ≡ entries =
+          append-nil (o.entries ++ o.last ∷ o.entry ∷ []) ∙ f.all
+          ∙ ap (λ t. entries ++ t) (none_in_nothing kind f.more o.rest f.read)
+          ∙ append-nil entries in
+          o.not_behind (rising_pair o.entries o.last o.entry [] (subst AreInOrder (sym all) h.rising))
     ]
 
 pub refused_is_none : (kind : Kind) (bytes : List ℕ) (error : TreeError) (entries : List TreeEntry)
@@ -102,8 +105,8 @@ front_of_more [] ys more z e = inr (ys, refl)
 front_of_more (x ∷ xs) [] more z e = inl (nothing_left xs more (let f : [] ≡ xs ++ more = cc in sym f))
 front_of_more (x ∷ xs) (y ∷ ys) more z e =
     elim (front_of_more xs ys more z cc) [
-      inl f ↦ inl f
-    | inr f ↦ inr (f.0, (let head : y ≡ x = cc in ap (λ t. t ∷ ys) head) ∙ ap (λ t. x ∷ t) f.1)
+      | inl f ↦ inl f
+      | inr f ↦ inr (f.0, (let head : y ≡ x = cc in ap (λ t. t ∷ ys) head) ∙ ap (λ t. x ∷ t) f.1)
     ]
 
 -- two refusals that stand one behind the other are at one place
@@ -111,13 +114,19 @@ order_before_order : (kind : Kind) (bytes : List ℕ) (n m : ℕ) (o : IsOutOfOr
     → GoesOn kind (o.entries ++ o.last ∷ o.entry ∷ []) o.rest (p.entries ++ p.last ∷ p.entry ∷ []) p.rest → n ≡ m
 order_before_order kind bytes n m o p f =
     elim (front_of_more (o.entries ++ o.last ∷ o.entry ∷ []) (p.entries ++ p.last ∷ []) f.more p.entry
-      (append_assoc p.entries (p.last ∷ []) (p.entry ∷ []) ∙ f.all)) [
-      inl none ↦
-        let all : p.entries ++ p.last ∷ p.entry ∷ [] ≡ o.entries ++ o.last ∷ o.entry ∷ [] =
-        f.all ∙ ap (λ t. (o.entries ++ o.last ∷ o.entry ∷ []) ++ t) none ∙ append-nil (o.entries ++ o.last ∷ o.entry ∷ []) in
-        omega (arith, o.count, p.count, ap length all, length-append p.entries (p.last ∷ p.entry ∷ []),
-          length-append o.entries (o.last ∷ o.entry ∷ []))
-    | inr front ↦ absurd (o.not_behind (rising_pair o.entries o.last o.entry front.0 (subst IsRising front.1 p.rising)))
+    (append_assoc p.entries (p.last ∷ []) (p.entry ∷ []) ∙ f.all)) [
+      | inl none ↦
+          let all : p.entries ++ p.last ∷ p.entry ∷ [] ≡ o.entries ++ o.last ∷ o.entry ∷ [] =
+          f.all ∙ ap (λ t. (o.entries ++ o.last ∷ o.entry ∷ []) ++ t) none ∙ append-nil (o.entries ++ o.last ∷ o.entry ∷ []) in
+          omega (
+            arith,
+            o.count,
+            p.count,
+            ap length all,
+            length-append p.entries (p.last ∷ p.entry ∷ []),
+            length-append o.entries (o.last ∷ o.entry ∷ []),
+          )
+      | inr front ↦ absurd (o.not_behind (rising_pair o.entries o.last o.entry front.0 (subst AreInOrder front.1 p.rising)))
     ]
 
 unreadable_is_first : (kind : Kind) (bytes : List ℕ) (n m : ℕ) (u : IsUnreadableAt kind bytes n) (v : IsUnreadableAt kind bytes m)
@@ -130,26 +139,26 @@ unreadable_is_first kind bytes n m u v f =
 pub not_both : (kind : Kind) (bytes : List ℕ) (n m : ℕ) → IsUnreadableAt kind bytes n → IsOutOfOrderAt kind bytes m → ⊥
 not_both kind bytes n m u o =
     elim (one_goes_on kind bytes u.entries (o.entries ++ o.last ∷ o.entry ∷ []) u.rest o.rest u.read o.read) [
-      inl f ↦
-        let all : (o.entries ++ o.last ∷ o.entry ∷ []) ++ [] ≡ u.entries =
-        append-nil (o.entries ++ o.last ∷ o.entry ∷ []) ∙ f.all
-        ∙ ap (λ t. u.entries ++ t) (none_there kind u.rest f.more o.rest u.no_entry f.read) ∙ append-nil u.entries in
-        o.not_behind (rising_pair o.entries o.last o.entry [] (subst IsRising (sym all) u.rising))
-    | inr f ↦ o.not_behind (rising_pair o.entries o.last o.entry f.more (subst IsRising f.all u.rising))
+      | inl f ↦
+          let all : (o.entries ++ o.last ∷ o.entry ∷ []) ++ [] ≡ u.entries =
+          append-nil (o.entries ++ o.last ∷ o.entry ∷ []) ∙ f.all
+          ∙ ap (λ t. u.entries ++ t) (none_there kind u.rest f.more o.rest u.no_entry f.read) ∙ append-nil u.entries in
+          o.not_behind (rising_pair o.entries o.last o.entry [] (subst AreInOrder (sym all) u.rising))
+      | inr f ↦ o.not_behind (rising_pair o.entries o.last o.entry f.more (subst AreInOrder f.all u.rising))
     ]
 
 pub one_refusal : (kind : Kind) (bytes : List ℕ) (first second : TreeError) → IsTreeRefusal kind bytes first
     → IsTreeRefusal kind bytes second → first ≡ second
 one_refusal kind bytes (Unreadable n) (Unreadable m) h k =
     ap Unreadable (elim (one_goes_on kind bytes h.entries k.entries h.rest k.rest h.read k.read) [
-      inl f ↦ unreadable_is_first kind bytes n m h k f
-    | inr f ↦ sym (unreadable_is_first kind bytes m n k h f)
+      | inl f ↦ unreadable_is_first kind bytes n m h k f
+      | inr f ↦ sym (unreadable_is_first kind bytes m n k h f)
     ])
 one_refusal kind bytes (Unreadable n) (Order m) h k = absurd (not_both kind bytes n m h k)
 one_refusal kind bytes (Order n) (Unreadable m) h k = absurd (not_both kind bytes m n k h)
 one_refusal kind bytes (Order n) (Order m) h k =
     ap Order (elim (one_goes_on kind bytes (h.entries ++ h.last ∷ h.entry ∷ []) (k.entries ++ k.last ∷ k.entry ∷ []) h.rest k.rest
-      h.read k.read) [
-      inl f ↦ order_before_order kind bytes n m h k f
-    | inr f ↦ sym (order_before_order kind bytes m n k h f)
+    h.read k.read) [
+      | inl f ↦ order_before_order kind bytes n m h k f
+      | inr f ↦ sym (order_before_order kind bytes m n k h f)
     ])

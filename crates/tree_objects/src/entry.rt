@@ -1,6 +1,7 @@
 //! Entries.
 
-ghost use Rattle.std.specs.Prelude.{◌≡◌, ◌≢◌, ◌++◌, ◌∷◌, ℕ, List, All, ◌<◌, ◌≤◌, ◌↔◌, IsTrue, MatchOption, length, slice_index, take};
+ghost use Rattle.std.specs.Prelude.{◌≡◌, ◌≢◌, ◌<◌, ◌≤◌, ◌↔◌, ◌++◌, ◌∷◌, ℕ, List, All};
+ghost use Rattle.std.specs.Prelude.{IsTrue, MatchOption, length, slice_index, take};
 ghost use Rattle.std.specs.Ordering.{nat_cmp};
 ghost use Rattle.std.specs.Cmp.Lexicographic.{slice_cmp};
 ghost use Rattle.std.specs.List.{AllPass};
@@ -8,7 +9,7 @@ ghost use Rattle.tree_objects.specs.Mode.{is_octal};
 ghost use Rattle.tree_objects.specs.Entry.{entry_of};
 ghost use Rattle.tree_objects.specs.Tree.{TreeEntry, BeginsWithEntry, IsName, key_end, key_of};
 
-use crate::mode::{EntryKind, are_octal, kind_of, lower_bits};
+use crate::mode::{EntryKind, are_octal, kind_by_mode, lower_bits};
 use gix_hash_core::Kind;
 use std::cmp::Ordering;
 
@@ -53,7 +54,7 @@ pub fn split_entry<'a>(kind: Kind, bytes: &'a [u8]) -> Option<SplitEntry<'a>>
     let Some((id, next)) = name.behind.split_at_checked(kind.len_in_bytes()) else {
         return None;
     };
-    let kind = kind_of(lower_bits(mode.front));
+    let kind = kind_by_mode(lower_bits(mode.front));
     let entry = Entry {
         kind,
         name: name.front,
@@ -94,7 +95,7 @@ struct Parts<'a> {
 fn split_at_byte<'a>(value: u8, bytes: &'a [u8]) -> Option<Parts<'a>>
     ensures { MatchOption result (All (λ b. b ≢ value) bytes.now)
         (λ parts. (bytes.now ≡ parts.front.now ++ value ∷ parts.behind.now)
-            × All (λ b. b ≢ value) parts.front.now) }
+        × All (λ b. b ≢ value) parts.front.now) }
 {
     let Some(place) = place_of(value, bytes) else {
         return None;
@@ -109,7 +110,7 @@ fn split_at_byte<'a>(value: u8, bytes: &'a [u8]) -> Option<Parts<'a>>
 fn place_of(value: u8, bytes: &[u8]) -> Option<usize>
     ensures { MatchOption result (All (λ b. b ≢ value) bytes.now)
         (λ place. (place < length bytes.now) × (slice_index bytes.now place ≡ value)
-            × All (λ b. b ≢ value) (take place bytes.now)) }
+        × All (λ b. b ≢ value) (take place bytes.now)) }
 {
     for (i, byte) in bytes.iter().enumerate() {
         if *byte == value {
@@ -170,19 +171,14 @@ fn order_of_ends(a: &[u8], a_kind: EntryKind, b: &[u8], b_kind: EntryKind) -> Or
 /// The byte at a place of a name, behind which a directory's goes on with a slash.
 fn byte_at(name: &[u8], kind: EntryKind, i: usize) -> Option<u8>
     ensures { let key = name.now ++ key_end kind in
-        MatchOption result (length key ≤ i) (λ byte. (i < length key) × (byte ≡ slice_index key i)) }
+        MatchOption result (length key ≤ i)
+        (λ byte. (i < length key) × (byte ≡ slice_index key i)) }
 {
     if i < name.len() {
         return Some(name[i]);
     }
     match kind {
-        EntryKind::Directory => {
-            if i == name.len() {
-                Some(b'/')
-            } else {
-                None
-            }
-        }
+        EntryKind::Directory => { if i == name.len() { Some(b'/') } else { None } }
         _ => None,
     }
 }

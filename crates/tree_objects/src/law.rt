@@ -20,7 +20,7 @@ pub fn entries_go_on_behind_the_first()
         (next : List ℕ) → AreEntriesAnd kind bytes entries []
         → BeginsWithEntry kind bytes first next
         → (others : List TreeEntry) × (entries ≡ first ∷ others)
-            × AreEntriesAnd kind next others [] }
+        × AreEntriesAnd kind next others [] }
 {}
 
 /// The bytes of a tree are the entries of one tree alone.

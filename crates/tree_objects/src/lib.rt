@@ -11,6 +11,3 @@ mod mode;
 pub use check::{TreeError, check_tree};
 pub use entry::{Entry, SplitEntry, order, split_entry};
 pub use mode::EntryKind;
-
-#[cfg(test)]
-mod tests;

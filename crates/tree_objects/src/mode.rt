@@ -40,9 +40,9 @@ pub(crate) fn lower_bits(digits: &[u8]) -> u16
 }
 
 /// The kind of entry that a mode with these lower bits makes.
-#[tactic(auto, unfolding(crate::specs::Mode::kind_of))]
-pub(crate) fn kind_of(mode: u16) -> EntryKind
-    ensures { result ≡ spec.kind_of mode }
+#[tactic(auto, unfolding(crate::specs::Mode::kind_by_mode))]
+pub(crate) fn kind_by_mode(mode: u16) -> EntryKind
+    ensures { result ≡ spec.kind_by_mode mode }
 {
     match mode / 4096 {
         8 => {

@@ -1,4 +1,4 @@
-use Rattle.std.proofs.Common.{◌≡◌, ◌-◌, ℕ, List, Option, Some, map, option_map, length}
+use Rattle.std.proofs.Common.{◌≡◌, ◌-◌, ◌≤◌, List, Some, map, option_map, length}
 use Rattle.gix_hash_core.specs.Oid.{oid_bytes}
 use Rattle.tree_changes.specs.Stands.{World}
 use Rattle.tree_changes.specs.Walk.{Change, IsFoundSoFar, leaf_texts}
@@ -14,8 +14,9 @@ invariant-loop-found g l =
       names : l.walk.names ≡ l.limits.names;
       done : List Change;
       so_far : IsFoundSoFar k (says l.source) (option_map oid_bytes l.fn.old) (Some (oid_bytes l.fn.new)) l.limits.trees done
-        l.walk.path.items l.walk.levels.items l.walk.trees;
-      texts : leaf_texts done ≡ map (λ path. path.items) l.found.items
+          l.walk.path.items l.walk.levels.items l.walk.trees;
+      texts : leaf_texts done ≡ map (λ path. path.items) l.found.items;
+      few : length l.found.items ≤ l.limits.paths;
     }
 
 abbrev pub decreases-loop-found : goal.decreases-loop-found

@@ -1,4 +1,4 @@
-use Rattle.std.proofs.Common.{rules, arith, refl}
+use Rattle.std.proofs.Common.{rules, refl}
 use Rattle.std.specs.Prelude.{option_map}
 use Rattle.tree_objects.specs.Entry.{entry_of}
 use Rattle.tree_changes.proofs.EndLemmas.{end_of_end, itself}
@@ -18,14 +18,16 @@ loop-pair-preserved c =
     let pair = c.in-Some.pair in
     record {
       past = λ olds news h k r s.
-        past_more c.args.kind olds news c.loop-pair.old_rest.now c.loop-pair.new_rest.now
-        (c.loop-pair.invariant.past olds news h k r s) (option_map entry_of pair.old) (option_map entry_of pair.new)
-        pair.old_rest.now pair.new_rest.now pair.name.now pair.directory c.in-Some.ensures.pair
-        (c.if-not-are_alike.ensures.0 refl);
+          past_more c.args.kind olds news c.loop-pair.old_rest.now c.loop-pair.new_rest.now
+          (c.loop-pair.invariant.past olds news h k r s) (option_map entry_of pair.old) (option_map entry_of pair.new)
+          pair.old_rest.now pair.new_rest.now pair.name.now pair.directory c.in-Some.ensures.pair
+          (c.if-not-are_alike.ensures.0 refl);
       old_end =
-      end_of_end c.args.old.now c.loop-pair.old_rest.now pair.old_rest.now c.loop-pair.invariant.old_end c.in-Some.ensures.old_end;
+          end_of_end c.args.old.now c.loop-pair.old_rest.now pair.old_rest.now c.loop-pair.invariant.old_end
+          c.in-Some.ensures.old_end;
       new_end =
-      end_of_end c.args.new.now c.loop-pair.new_rest.now pair.new_rest.now c.loop-pair.invariant.new_end c.in-Some.ensures.new_end;
+          end_of_end c.args.new.now c.loop-pair.new_rest.now pair.new_rest.now c.loop-pair.invariant.new_end
+          c.in-Some.ensures.new_end;
     }
 
 pub returns-clause-pair : goal.returns-clause-pair

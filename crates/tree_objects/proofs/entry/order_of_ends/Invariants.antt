@@ -11,7 +11,7 @@ invariant-loop-first l =
     record {
       same : slice_cmp nat_cmp (drop l.i a) (drop l.i b) ≡ slice_cmp nat_cmp a b;
       a_in : l.i ≤ length a;
-      b_in : l.i ≤ length b
+      b_in : l.i ≤ length b;
     }
 
 abbrev pub decreases-loop-first : goal.decreases-loop-first

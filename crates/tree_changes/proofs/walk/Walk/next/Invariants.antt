@@ -13,8 +13,8 @@ invariant-loop-level g l =
       kept : (world : World) → says l.source world → says l.fn.source world;
       names : l.self.names ≡ l.fn.self.names;
       found : (old new : Option (List ℕ)) (budget : ℕ) (found : List Change)
-        → IsFoundSoFar k (says l.fn.source) old new budget found l.fn.self.path.items l.fn.self.levels.items l.fn.self.trees
-        → IsGoneOn k (says l.source) old new budget found l.self.path.items l.self.levels.items l.self.trees
+          → IsFoundSoFar k (says l.fn.source) old new budget found l.fn.self.path.items l.fn.self.levels.items l.fn.self.trees
+          → IsGoneOn k (says l.source) old new budget found l.self.path.items l.self.levels.items l.self.trees;
     }
 
 abbrev pub decreases-loop-level : goal.decreases-loop-level
