@@ -1,0 +1,12 @@
+pub mod SideLemmas
+pub mod StepLemmas
+pub mod PairLemmas
+pub mod EarlierLemmas
+pub mod NextLemmas
+pub mod EndLemmas
+pub mod WorldLemmas
+pub mod LevelLemmas
+pub mod StopLemmas
+pub mod GoneOn
+pub mod NextStep
+pub mod FinalLemmas

@@ -1,0 +1,4 @@
+pub mod Stands
+pub mod Changes
+pub mod Walk
+pub mod Reads

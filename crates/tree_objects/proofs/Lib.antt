@@ -1,0 +1,4 @@
+pub mod ModeLemmas
+pub mod SplitLemmas
+pub mod CheckLemmas
+pub mod ReadLemmas
