@@ -4,7 +4,7 @@ use Rattle.std.specs.Option.{option_map_or}
 use Rattle.graph_format.specs.Layer.{Layer}
 use Rattle.graph_chunks.specs.declared.dates.DatesError.{DatesError}
 use Rattle.graph_writer.specs.WritingRefusal.{AreAccepted, MayRefuseWriting}
-use Rattle.graph_writer.specs.NewFilters.{IsWritten}
+use Rattle.graph_writer.specs.WrittenFiles.{IsWritten}
 use Rattle.graph_writer.specs.declared.commit.NewCommit.{NewCommit}
 use Rattle.graph_writer.specs.declared.commit.WriteError.{WriteError}
 use Rattle.graph_writer.specs.declared.commit.WriteError.TheVariants as error

@@ -20,3 +20,9 @@ pub mod ExtraWords
 pub mod Pushes
 pub mod FanSteps
 pub mod BuiltBody
+pub mod SamePlans
+pub mod SaidPlans
+pub mod RawBytes
+pub mod RawParents
+pub mod GitLayout
+pub mod LaidOut

@@ -122,7 +122,7 @@ large-word offsets i h =
     (le-leb (2 ^ 31) (get_or offsets i 0) h)
 
 -- the offset that is read is the one that was put
-offset_of-written : (offsets : List ℕ) (i : ℕ) → i < length offsets → length offsets < top_bit
+pub offset_of-written : (offsets : List ℕ) (i : ℕ) → i < length offsets → length offsets < top_bit
     → All (λ offset. offset < 2 ^ 64) offsets
     → offset_of (words_bytes (offset_words offsets)) (longs_bytes (large_offsets offsets)) i ≡ Some (get_or offsets i 0)
 offset_of-written offsets i h few fit =

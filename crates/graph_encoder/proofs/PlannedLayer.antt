@@ -5,19 +5,21 @@ use Rattle.std.proofs.lemmas.List.{take_at, drop_at, length-map}
 use Rattle.gix_hash_core.specs.declared.kind.Kind.{Kind}
 use Rattle.gix_hash_core.specs.Kind.{id_len}
 use Rattle.gix_hash_core.specs.Digest.{digest_of}
-use Rattle.std.specs.Prelude.{zip, codes, option_map}
+use Rattle.std.specs.Prelude.{zip, codes, option_map, unwrap_or}
 use Rattle.graph_format.specs.OptionalChunks.{HasDates, times_in, dates_in, index_in, data_in}
 use Rattle.graph_encoder.proofs.OffsetLemmas.{dates-said}
 use Rattle.graph_format.specs.Format.{Record, record_of, record_len, pieces, words, commits_of, table_of, chunk_of, fan_id}
 use Rattle.graph_format.specs.Format.{ids_id}
 use Rattle.graph_format.specs.Format.{records_id, edges_id, bases_id}
-use Rattle.graph_format.specs.Layer.{Layer, IsLayer}
+use Rattle.graph_format.specs.Layer.{Layer, IsLayer, bytes_of}
 use Rattle.graph_encoder.specs.declared.plan.FilePlan.{FilePlan}
 use Rattle.graph_encoder.specs.declared.plan.PlanCommit.{PlanCommit}
 use Rattle.graph_encoder.specs.ExtraEdges.{all_extra_words}
 use Rattle.graph_encoder.specs.Plan.{IsPlan}
-use Rattle.graph_encoder.specs.DateOffsets.{offsets_of}
+use Rattle.graph_encoder.specs.Chunks.{unless_empty}
+use Rattle.graph_encoder.specs.DateOffsets.{offsets_of, offset_words, large_offsets}
 use Rattle.graph_encoder.specs.Written.{ids_of, exact_fan, planned_body, planned_file, filter_index, filter_data}
+use Rattle.graph_encoder.specs.Written.{words_bytes, longs_bytes}
 use Rattle.graph_encoder.specs.Said.{SaysPlan, IsFileOf}
 use Rattle.graph_encoder.proofs.Pieces.{words-words_bytes}
 use Rattle.graph_encoder.proofs.BuiltFan.{exact_fan-at, exact_fan-small, exact_fan-last, ids_up_to-rising}
@@ -115,6 +117,18 @@ unfolding planned_file
 data-planned plan path h = chunk_of-planned plan (codes "BDAT") h
 
 -- the offsets of dates, if there are any
+offsets-planned : (plan : FilePlan) (path : List ℕ) → IsPlan plan
+    → chunk_of (bytes_of (planned_layer plan path)) (codes "GDA2")
+    ≡ option_map (λ offsets. words_bytes (offset_words offsets)) (offsets_of plan)
+unfolding planned_file
+offsets-planned plan path h = chunk_of-planned plan (codes "GDA2") h
+
+overflow-planned : (plan : FilePlan) (path : List ℕ) → IsPlan plan
+    → chunk_of (bytes_of (planned_layer plan path)) (codes "GDO2")
+    ≡ unless_empty (longs_bytes (large_offsets (unwrap_or (offsets_of plan) [])))
+unfolding planned_file
+overflow-planned plan path h = chunk_of-planned plan (codes "GDO2") h
+
 dates-planned : (plan : FilePlan) (path : List ℕ) → IsPlan plan
     → MatchOption (offsets_of plan) (HasDates (planned_layer plan path) → ⊥) (λ offsets.
     HasDates (planned_layer plan path)
@@ -148,7 +162,7 @@ body-planned plan h = (
   sym (drop_at (planned_body plan) (digest_in plan) _ (sym (end-planned plan h))),
 )
 
-is-planned : (plan : FilePlan) (path : List ℕ) → IsPlan plan → All (λ id. slice_index id 0 < 256) (ids_of plan.commits.items)
+pub is-planned : (plan : FilePlan) (path : List ℕ) → IsPlan plan → All (λ id. slice_index id 0 < 256) (ids_of plan.commits.items)
     → IsLayer (planned_file plan) path (planned_layer plan path)
 is-planned plan path h e =
     let starts = headed-planned plan in
@@ -178,7 +192,7 @@ is-planned plan path h e =
       origin = refl;
     }
 
-says-planned : (plan : FilePlan) (path : List ℕ) → IsPlan plan → SaysPlan plan (planned_layer plan path)
+pub says-planned : (plan : FilePlan) (path : List ℕ) → IsPlan plan → SaysPlan plan (planned_layer plan path)
 says-planned plan path h =
     record {
       kind = refl;
@@ -192,6 +206,8 @@ says-planned plan path h =
       edges = edges-words (all_extra_words plan.commits.items) (all_extra_words-small plan.kind plan.commits.items h.commits);
       checksum = refl;
       dates = dates-planned plan path h;
+      offsets = offsets-planned plan path h;
+      overflow = overflow-planned plan path h;
       index = index-planned plan path h;
       filters = data-planned plan path h;
     }

@@ -114,7 +114,7 @@ records-read kind index (commit ∷ commits) h e =
     (records-read kind (index_after index commit) commits (All-others (IsPlannedCommit kind) commit commits h)
     (omega (arith, e, words)))
 
-kind-whole : (kind : Kind) → 0 < record_len kind
+pub kind-whole : (kind : Kind) → 0 < record_len kind
 kind-whole Sha1 = omega arith
 kind-whole Sha256 = omega arith
 

@@ -5,5 +5,7 @@ pub mod DateOffsets
 pub mod Chunks
 pub mod Written
 pub mod Said
+pub mod SamePlans
+pub mod GitLayout
 pub mod StoredNumbers
 pub mod Sizes

@@ -1,15 +1,16 @@
 -- When a layer says what a plan says. (gitformat-commit-graph, "CHUNK DATA" and "TRAILER".)
 use Rattle.std.specs.Prelude.{◌≡◌, ◌+◌, ◌<◌, ℕ, List, [], map, length, take, slice_index, slice_get, Option, Some, None}
-use Rattle.std.specs.Prelude.{IsSomeAnd, MatchOption, option_map}
+use Rattle.std.specs.Prelude.{IsSomeAnd, MatchOption, codes, option_map, unwrap_or}
 use Rattle.std.specs.List.{zip}
 use Rattle.gix_hash_core.specs.Digest.{digest_of}
-use Rattle.graph_format.specs.Format.{Record, words}
-use Rattle.graph_format.specs.Layer.{Layer, IsLayer}
+use Rattle.graph_format.specs.Format.{Record, chunk_of, words}
+use Rattle.graph_format.specs.Layer.{Layer, IsLayer, bytes_of}
 use Rattle.graph_format.specs.Parents.{DecodedParents, parents_of}
 use Rattle.graph_encoder.specs.ExtraEdges.{top_bit, all_extra_words}
 use Rattle.graph_format.specs.OptionalChunks.{HasDates, times_in, dates_in, index_in, data_in}
-use Rattle.graph_encoder.specs.Written.{ids_of, ids_up_to, filter_index, filter_data}
-use Rattle.graph_encoder.specs.DateOffsets.{offsets_of}
+use Rattle.graph_encoder.specs.Chunks.{unless_empty}
+use Rattle.graph_encoder.specs.Written.{ids_of, ids_up_to, filter_index, filter_data, words_bytes, longs_bytes}
+use Rattle.graph_encoder.specs.DateOffsets.{offsets_of, offset_words, large_offsets}
 use Rattle.graph_encoder.specs.declared.plan.FilePlan.{FilePlan}
 use Rattle.graph_encoder.specs.declared.plan.PlanCommit.{PlanCommit}
 
@@ -45,6 +46,11 @@ pub record SaysPlan (plan : FilePlan) (layer : Layer) : Type 0 where
   -- the corrected dates are the times with these offsets, and are missing where the plan has none
   pub dates : MatchOption (offsets_of plan) (HasDates layer → ⊥) (λ offsets.
       HasDates layer × (dates_in layer ≡ map (λ pair. pair.0 + pair.1) (zip (times_in layer) offsets)))
+  -- their offsets stand in "Generation Data", and those that are large in "Generation Data Overflow"
+  pub offsets : chunk_of (bytes_of layer) (codes "GDA2")
+      ≡ option_map (λ offsets. words_bytes (offset_words offsets)) (offsets_of plan)
+  pub overflow : chunk_of (bytes_of layer) (codes "GDO2")
+      ≡ unless_empty (longs_bytes (large_offsets (unwrap_or (offsets_of plan) [])))
   -- the filters stand in both chunks, which are missing where the plan has none
   pub index : index_in layer ≡ option_map filter_index plan.filters
   pub filters : data_in layer ≡ option_map filter_data plan.filters

@@ -22,7 +22,11 @@ mod view;
 pub use builder::{build, build_view};
 pub use edges::has_few_extra_words;
 pub use filters::{FilterNumbers, PlanFilters};
-pub use law::planned_files_say_their_plans;
+pub use law::{
+    a_file_in_git_layout_encodes_again, a_planned_file_encodes_again,
+    planned_files_are_in_git_layout, planned_files_say_their_plans,
+    plans_that_say_the_same_have_one_file,
+};
 pub use plan::{FilePlan, PlanCommit, is_buildable};
 pub use row::PlanRow;
 pub use view::PlanView;

@@ -23,6 +23,7 @@ use Rattle.graph_writer.proofs.AcceptedSteps.{scanned-none}
 use Rattle.graph_writer.proofs.CycleSteps.{root-parents, base, plain, parents-of-new, size-plain, plain-on-top}
 use Rattle.graph_writer.proofs.CycleSteps.{id-at-position}
 use Rattle.graph_writer.proofs.DistinctSteps.{ascending-once}
+use Rattle.graph_writer.proofs.FirstSteps.{first-hold}
 use Rattle.graph_writer.proofs.NewIdSteps.{scan-misses}
 
 -- a position whose id is known, among positions that hold these ids
@@ -93,7 +94,7 @@ module _ (layers : List Layer) (commits : List NewCommit) (new : NewLayer) (is_n
       ∙ ap (λ (x : List ℕ). Some x) names.named.2 in
       let found =
       held (graph_ids layers ++ sorted) (parent_list new.parents p) names.child.parents.items k names.parent.id
-      (is_new.parents p i names.child at_p names.at_child) id in
+      (first-hold _ _ _ (is_new.parents p i names.child at_p names.at_child)) id in
       let r : ℕ = found.0 in
       let above : start_on_top ≤ r =
       ⊎_elim

@@ -23,6 +23,7 @@ use Rattle.graph_writer.specs.NewCommits.{new_ids, HoldIds}
 use Rattle.graph_writer.specs.NewLayers.{IsNewLayer, ids_in_order}
 use Rattle.graph_writer.specs.declared.commit.NewCommit.{NewCommit}
 use Rattle.graph_writer.specs.declared.new_layer.NewLayer.{NewLayer}
+use Rattle.graph_writer.proofs.FirstSteps.{first-hold}
 use Rattle.graph_writer.proofs.KnownSteps.{get-back}
 
 abbrev root : Node
@@ -113,7 +114,7 @@ module _ (layers : List Layer) (commits : List NewCommit) (new : NewLayer) (is_n
       let child = commit-at p lt in
       let parent = commit-at (q - base) (omega arith) in
       let holds : HoldIds (graph_ids layers ++ ids_in_order commits new.order.items) (parent_list new.parents p)
-      child.1.parents.items = is_new.parents p child.0 child.1 child.2 child.3 in
+      child.1.parents.items = first-hold _ _ _ (is_new.parents p child.0 child.1 child.2 child.3) in
       let all = graph_ids layers ++ ids_in_order commits new.order.items in
       let position : slice_get (parent_list new.parents p) k ≡ Some q =
       slice_get-get_or (parent_list new.parents p) k q inside ∙ ap (λ (n : ℕ). Some n) at in

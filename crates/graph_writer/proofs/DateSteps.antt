@@ -1,9 +1,8 @@
 -- The corrected dates of a graph with a new layer on top are right, as those below were.
 use Rattle.std.proofs.Common.{◌≡◌, ℕ, zero, suc, ◌+◌, ◌-◌, ◌<◌, List, [], ◌∷◌, ◌++◌, map, length, All, IsSomeAnd, slice_get}
 use Rattle.std.proofs.Common.{get_or, Option, Some, None, option_map, unwrap_or, sym, ap, ◌∙◌, subst, arith}
-use Rattle.std.specs.List.{zip, flat_map}
-use Rattle.std.proofs.lemmas.Grind.{flat_map-append}
-use Rattle.std.proofs.lemmas.List.{append-nil, length-map, map-append}
+use Rattle.std.specs.List.{zip}
+use Rattle.std.proofs.lemmas.List.{length-map}
 use Rattle.std.proofs.lemmas.List.Elements.{All-push}
 use Rattle.std.proofs.lemmas.Option.{slice_get-map, slice_get-get_or, get_or_from_slice_get}
 use Rattle.graph_walks.specs.Dates.{AreRight}
@@ -33,10 +32,11 @@ use Rattle.graph_writer.specs.declared.levels_below.LevelsBelow.{LevelsBelow}
 use Rattle.graph_writer.specs.declared.new_layer.NewLayer.{NewLayer}
 use Rattle.graph_writer.proofs.KnownSteps.{get-back}
 use Rattle.graph_writer.proofs.RightSteps.{on-top, parents-below}
-use Rattle.graph_writer.proofs.TopSteps.{commits-top, history-top, number-front, date-front}
+use Rattle.graph_writer.proofs.TopSteps.{history-top, times-top, dates-top, number-front, date-front}
 use Rattle.graph_writer.proofs.WrittenSteps.{IsTold, told, as-many}
 
-zip-at : (xs ys : List ℕ) (i x y : ℕ) → slice_get xs i ≡ Some x → slice_get ys i ≡ Some y → slice_get (zip xs ys) i ≡ Some (x, y)
+pub zip-at : {X Y : Type 0} (xs : List X) (ys : List Y) (i : ℕ) (x : X) (y : Y) → slice_get xs i ≡ Some x
+    → slice_get ys i ≡ Some y → slice_get (zip xs ys) i ≡ Some (x, y)
 zip-at [] ys i x y here there = cc
 zip-at (a ∷ xs) [] i x y here there = cc
 zip-at (a ∷ xs) (b ∷ ys) zero x y here there = cc
@@ -70,16 +70,6 @@ module _ (layers : List Layer) (commits : List NewCommit) (new : NewLayer) (is_n
 
   abbrev own_times : List ℕ
   own_times = map time_of (positions_from layer 0)
-
-  times-top : times_of all ≡ times_of layers ++ own_times
-  unfolding times_of
-  times-top =
-      ap (map time_of) (commits-top layers layer) ∙ map-append time_of (graph_commits layers) (positions_from layer 0)
-
-  dates-top : dates_of all ≡ dates_of layers ++ dates_in layer
-  unfolding dates_of
-  dates-top =
-      flat_map-append dates_in layers (layer ∷ []) ∙ ap (λ xs. flat_map dates_in layers ++ xs) (append-nil (dates_in layer))
 
   opened-all : All IsOpened all
   opened-all = All-push IsOpened layers layer below.opened opened
@@ -140,7 +130,7 @@ module _ (layers : List Layer) (commits : List NewCommit) (new : NewLayer) (is_n
       times
   has-dates = record {
     as_many =
-        ap length (sym dates-top)
+        ap length (sym (dates-top layers layer))
         ∙ length-dates_of all opened-all
         ∙ sym (length-history all opened-all)
         ∙ ap length (history-top layers layer);
@@ -176,7 +166,7 @@ module _ (layers : List Layer) (commits : List NewCommit) (new : NewLayer) (is_n
       → AreRight (history_of all) (times_of all) (dates_of all)
   right-dates right =
       subst (λ (h : List Node). AreRight h (times_of all) (dates_of all)) (sym (history-top layers layer))
-      (subst (λ (ts : List ℕ). AreRight (a ++ b) ts (dates_of all)) (sym times-top)
-      (subst (λ (ds : List ℕ). AreRight (a ++ b) (times_of layers ++ own_times) ds) (sym dates-top)
+      (subst (λ (ts : List ℕ). AreRight (a ++ b) ts (dates_of all)) (sym (times-top layers layer))
+      (subst (λ (ds : List ℕ). AreRight (a ++ b) (times_of layers ++ own_times) ds) (sym (dates-top layers layer))
       (right (a ++ b) (times_of layers ++ own_times) (dates_of layers ++ dates_in layer)
       (on-top layers commits new is_new none known below own leveled plan counted planned layer says) has-dates)))

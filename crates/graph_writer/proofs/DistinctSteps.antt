@@ -25,7 +25,7 @@ ascending-once ids ascending p q id at_p at_q =
     (cases_lt p q)
 
 module _ (a b : List (List ℕ)) where
-  split : (p : ℕ) (id : List ℕ) → slice_get (a ++ b) p ≡ Some id
+  pub split : (p : ℕ) (id : List ℕ) → slice_get (a ++ b) p ≡ Some id
       → ((p < length a) × (slice_get a p ≡ Some id)) ⊎ ((length a ≤ p) × (slice_get b (p - length a) ≡ Some id))
   split p id here =
       ⊎_elim

@@ -10,7 +10,6 @@ use Rattle.graph_levels.specs.declared.lists.ParentLists.{ParentLists}
 use Rattle.std.proofs.lemmas.List.Sums.{position_or_len_is}
 use Rattle.gix_commitgraph.specs.Graph.{graph_ids, total}
 use Rattle.gix_commitgraph.proofs.layers.GraphLemmas.{counted}
-use Rattle.gix_commitgraph.proofs.layers.LayerListLemmas.{get-front}
 use Rattle.graph_format.specs.Layer.{Layer}
 use Rattle.graph_format.specs.Lookup.{scan}
 use Rattle.graph_format.proofs.ScanLemmas.{scan-none}
@@ -31,14 +30,6 @@ get-back (x ∷ xs) ys i = ap (slice_get (x ∷ (xs ++ ys))) (more (length xs) i
   where
     more : (n i : ℕ) → suc n + i ≡ suc (n + i)
     more n i = omega arith
-
--- a new commit stands after those below
-pub new-at : (layers : List Layer) (sorted : List (List ℕ)) (start rank : ℕ) (id : List ℕ) → start ≡ total layers
-    → slice_get sorted rank ≡ Some id → slice_get (graph_ids layers ++ sorted) (start + rank) ≡ Some id
-new-at layers sorted start rank id is here =
-    ap (λ (n : ℕ). slice_get (graph_ids layers ++ sorted) (n + rank)) (is ∙ sym (counted layers).ids)
-    ∙ get-back (graph_ids layers) sorted rank
-    ∙ here
 
 -- the first element that passes a test
 pub position-at : {X : Type 0} (p : X → Bool) (xs : List X) (i : ℕ) (d : X) → i < length xs
@@ -77,21 +68,10 @@ pub below-within : (layers : List Layer) (id : List ℕ) (p : ℕ) → scan (gra
 below-within layers id p is =
     omega (arith, slice_get_within (graph_ids layers) p id (scan-holds (graph_ids layers) id p is), (counted layers).ids)
 
-pub old-at : (layers : List Layer) (sorted : List (List ℕ)) (id : List ℕ) (p : ℕ) → scan (graph_ids layers) id ≡ Some p
-    → slice_get (graph_ids layers ++ sorted) p ≡ Some id
-old-at layers sorted id p is =
-    let here = scan-holds (graph_ids layers) id p is in
-    get-front (graph_ids layers) sorted p (slice_get_within (graph_ids layers) p id here) ∙ here
-
 pub below-bound : (layers : List Layer) (id : List ℕ) (start n : ℕ) (answer : Option ℕ) → start ≡ total layers
     → answer ≡ scan (graph_ids layers) id → IfSome answer (λ p. p < start + n)
 below-bound layers id start n None total_is is = tt
 below-bound layers id start n (Some p) total_is is = omega (arith, below-within layers id p (sym is))
-
-pub below-ids : (layers : List Layer) (sorted : List (List ℕ)) (id : List ℕ) (answer : Option ℕ)
-    → answer ≡ scan (graph_ids layers) id → IfSome answer (λ p. slice_get (graph_ids layers ++ sorted) p ≡ Some id)
-below-ids layers sorted id None is = tt
-below-ids layers sorted id (Some p) is = old-at layers sorted id p (sym is)
 
 pub if-none : {X : Type 0} (o : Option X) (P : Type 0) → IfNone o P → o ≡ None → P
 if-none None P h is = h

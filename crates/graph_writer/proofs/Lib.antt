@@ -19,6 +19,7 @@ pub mod AcceptedSteps
 pub mod RightSteps
 pub mod DateSteps
 pub mod DistinctSteps
+pub mod FirstSteps
 pub mod SumSteps
 pub mod WordSteps
 pub mod PlanSteps
@@ -32,4 +33,12 @@ pub mod AcyclicSteps
 pub mod ReasonSteps
 pub mod FitSteps
 pub mod WriteSteps
+pub mod ReadDates
+pub mod ReadFilters
+pub mod StaysRight
+pub mod FilterLists
+pub mod PlanForSteps
 pub mod ViewSteps
+pub mod SameHistories
+pub mod UniqueSteps
+pub mod ReorderedSteps

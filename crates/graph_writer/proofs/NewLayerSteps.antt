@@ -8,7 +8,7 @@ use Rattle.gix_commitgraph.specs.Graph.{graph_ids, total}
 use Rattle.graph_format.specs.Layer.{Layer}
 use Rattle.graph_format.specs.Order.{AreAscending}
 use Rattle.graph_levels.specs.ParentLists.{commit_count, parent_list}
-use Rattle.graph_writer.specs.NewCommits.{new_ids, HoldIds}
+use Rattle.graph_writer.specs.NewCommits.{new_ids, AreFirst}
 use Rattle.graph_writer.specs.NewLayers.{IsNewLayer, ids_in_order}
 use Rattle.graph_writer.specs.SortedPlaces.{ArePlaces, IsMixed, IsOrder, sorted_ids}
 use Rattle.graph_writer.specs.declared.commit.NewCommit.{NewCommit}
@@ -65,7 +65,7 @@ pub new-layer : (commits : List NewCommit) (layers : List Layer) (new : NewLayer
     → commit_count new.parents ≡ length new.order.items
     → ((p : ℕ) → p < commit_count new.parents → All (λ q. q < total layers + length commits) (parent_list new.parents p))
     → ((p i : ℕ) (commit : NewCommit) → slice_get new.order.items p ≡ Some i → slice_get commits i ≡ Some commit
-    → HoldIds (graph_ids layers ++ ids_in_order commits new.order.items) (parent_list new.parents p) commit.parents.items)
+    → AreFirst (graph_ids layers ++ ids_in_order commits new.order.items) (parent_list new.parents p) commit.parents.items)
     → IsNewLayer layers commits new
 new-layer commits layers new order listed within parents = record {
   as_many = order.mixed.as_many;

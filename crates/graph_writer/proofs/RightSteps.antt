@@ -19,7 +19,7 @@ use Rattle.graph_format.specs.RightLayer.{IsRightLayer, IsNull}
 use Rattle.graph_format.specs.StoredHistory.{node_of, layer_history, history_of}
 use Rattle.graph_format.specs.declared.Position.{Position}
 use Rattle.graph_format.proofs.LayerHistoryLemmas.{length-layer_history}
-use Rattle.gix_commitgraph.specs.Graph.{start, stop, total}
+use Rattle.gix_commitgraph.specs.Graph.{stop, total}
 use Rattle.gix_commitgraph.specs.Sound.{Sound, AreParentsKnown}
 use Rattle.gix_commitgraph.proofs.history.HistoryLemmas.{length-history}
 use Rattle.gix_commitgraph.proofs.history.KnownParentLemmas.{known-within}
@@ -39,7 +39,7 @@ use Rattle.graph_writer.specs.declared.commit.NewCommit.{NewCommit}
 use Rattle.graph_writer.specs.declared.levels_below.LevelsBelow.{LevelsBelow}
 use Rattle.graph_writer.specs.declared.new_layer.NewLayer.{NewLayer}
 use Rattle.graph_writer.proofs.AcceptedSteps.{accepted}
-use Rattle.graph_writer.proofs.TopSteps.{history-top, generation-front, expected-front, node-back}
+use Rattle.graph_writer.proofs.TopSteps.{history-top, start-front, generation-front, expected-front, node-back}
 use Rattle.graph_writer.proofs.WrittenSteps.{IsTold, told, as-many, as-many-records, has-commits, plain-positions}
 
 positions-within : (n : ℕ) (positions : List ℕ) → All (λ q. q < n) positions
@@ -149,17 +149,13 @@ module _ (layers : List Layer) (commits : List NewCommit) (new : NewLayer) (is_n
     fan = λ byte lt. says.fan byte lt;
   }
 
-  total-top : total all ≡ total layers + length commits
+  pub total-top : total all ≡ total layers + length commits
   total-top =
       omega (
         arith,
         sum_by-append (λ (l : Layer). length l.ids) layers (layer ∷ []),
         as-many layers commits new is_new own plan counted planned layer says,
       )
-
-  start-front : (i : ℕ) → i ≤ length layers → start all i ≡ start layers i
-  unfolding start
-  start-front i le = ap total (take-append-le i layers (layer ∷ []) le)
 
   known-top : AreParentsKnown all (length layers) layer
   known-top = record {
@@ -192,8 +188,15 @@ module _ (layers : List Layer) (commits : List NewCommit) (new : NewLayer) (is_n
         decoded = was.decoded;
         within =
             subst (λ (n : ℕ). All (λ r. All (λ (q : Position). q.0 < n) (parents_of r l.edges).positions) l.records)
-            (sym (start-front (i + 1) (omega arith))) was.within;
+            (sym (start-front layers layer (i + 1) (omega arith))) was.within;
       }
+
+  -- the generation numbers of all count walks
+  pub counts-top : ((history : List Node) → HasOnTop history (length known.levels.items) new.parents
+      → HasLevelGenerations history known.levels.items own → AreLocal history) → CountWalks (history_of all)
+  counts-top local =
+      subst (λ (h : List Node). CountWalks h) (sym (history-top layers layer))
+      (counts_from_local (a ++ b) (local (a ++ b) on-top has-generations))
 
   module _ (few : length layers ≤ 255) (bases : plan.bases.items ≡ map (λ l. l.checksum) layers)
       (local : (history : List Node) → HasOnTop history (length known.levels.items) new.parents
@@ -226,7 +229,5 @@ module _ (layers : List Layer) (commits : List NewCommit) (new : NewLayer) (is_n
             | inr last ↦
                 subst (AreParentsKnown all i) last.1 (subst (λ (n : ℕ). AreParentsKnown all n layer) (sym last.0) known-top)
           ];
-      generations =
-          subst (λ (h : List Node). CountWalks h) (sym (history-top layers layer))
-          (counts_from_local (a ++ b) (local (a ++ b) on-top has-generations));
+      generations = counts-top local;
     }

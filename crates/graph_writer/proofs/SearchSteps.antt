@@ -79,36 +79,39 @@ module _ (commits : List NewCommit) (order : List ℕ) (is : IsOrder commits ord
       (cases_lt p.0 low))
 
   -- an id that stands in the order is that of a commit
+  pub number-at : (p : ℕ) (id : List ℕ) → slice_get (ids_in_order commits order) p ≡ Some id
+      → (i : ℕ) × (slice_get (new_ids commits) i ≡ Some id)
+  number-at p id at =
+      let within : p < length order =
+      omega (
+        arith,
+        slice_get_within (ids_in_order commits order) p id at,
+        length-map order (λ n. get_or (new_ids commits) n []),
+      ) in
+      let number = some-place order p within in
+      let inside : number.0 < length (new_ids commits) =
+      omega (
+        arith,
+        all-at (λ i. i < length commits) order p number.0 is.mixed.each number.1,
+        length-map commits (λ (c : NewCommit). c.id),
+      ) in (
+        number.0,
+        slice_get-get_or (new_ids commits) number.0 [] inside
+            ∙ sym (slice_get-map (λ n. get_or (new_ids commits) n []) order p
+            ∙ ap (option_map (λ n. get_or (new_ids commits) n [])) number.1)
+            ∙ at,
+      )
+
+  -- so it is found
   pub known-at : (p : ℕ) (id : List ℕ) → slice_get (ids_in_order commits order) p ≡ Some id
       → is_none (scan (new_ids commits) id) ≡ false
   known-at p id at = by-cases (scan (new_ids commits) id) refl
     where
-      within : p < length order
-      within =
-          omega (
-            arith,
-            slice_get_within (ids_in_order commits order) p id at,
-            length-map order (λ n. get_or (new_ids commits) n []),
-          )
-
-      number : (i : ℕ) × (slice_get order p ≡ Some i)
-      number = some-place order p within
-
-      here : slice_get (new_ids commits) number.0 ≡ Some id
-      here =
-          let inside : number.0 < length (new_ids commits) =
-          omega (
-            arith,
-            all-at (λ i. i < length commits) order p number.0 is.mixed.each number.1,
-            length-map commits (λ (c : NewCommit). c.id),
-          ) in
-          slice_get-get_or (new_ids commits) number.0 [] inside
-          ∙ sym (slice_get-map (λ n. get_or (new_ids commits) n []) order p
-          ∙ ap (option_map (λ n. get_or (new_ids commits) n [])) number.1)
-          ∙ at
+      number : (i : ℕ) × (slice_get (new_ids commits) i ≡ Some id)
+      number = number-at p id at
 
       by-cases : (answer : Option ℕ) → scan (new_ids commits) id ≡ answer → is_none (scan (new_ids commits) id) ≡ false
-      by-cases None none = absurd (scan-misses (new_ids commits) id number.0 none here)
+      by-cases None none = absurd (scan-misses (new_ids commits) id number.0 none number.1)
       by-cases (Some i) some = ap is_none some
 
 -- and its place is one of the order

@@ -1,10 +1,10 @@
 -- A layer on top of others: its ids, its commits and its history come after theirs.
-use Rattle.std.proofs.Common.{◌≡◌, ℕ, ◌+◌, ◌<◌, min, max, List, [], ◌∷◌, ◌++◌, map, length, drop, All, slice_get}
+use Rattle.std.proofs.Common.{◌≡◌, ℕ, ◌+◌, ◌<◌, ◌≤◌, min, max, List, [], ◌∷◌, ◌++◌, map, length, drop, All, slice_get}
 use Rattle.std.proofs.Common.{Option, Some, refl, sym, ap, ◌∙◌, subst, arith}
 use Rattle.std.specs.List.{flat_map}
 use Rattle.std.specs.Option.{option_map_or}
 use Rattle.std.proofs.lemmas.Grind.{flat_map-append}
-use Rattle.std.proofs.lemmas.List.{append-nil, get_or_append_left, take-append-drop}
+use Rattle.std.proofs.lemmas.List.{append-nil, get_or_append_left, map-append, take-append-drop, take-append-le}
 use Rattle.std.proofs.lemmas.List.Elements.{All-head, All-tail}
 use Rattle.graph_walks.specs.Counts.{greatest}
 use Rattle.graph_walks.specs.Dates.{number_at, expected_date}
@@ -12,9 +12,11 @@ use Rattle.graph_walks.specs.Generations.{expected_generation}
 use Rattle.graph_walks.specs.History.{Node, generation_at, parents_at}
 use Rattle.graph_walks.specs.declared.TheConstants.{GENERATION_NUMBER_MAX}
 use Rattle.graph_format.specs.Format.{table_of}
-use Rattle.graph_format.specs.Layer.{Layer, IsLayer, IsOpened, bytes_of, positions_from}
+use Rattle.graph_format.specs.Layer.{Layer, IsLayer, IsOpened, bytes_of, positions_from, record_at}
+use Rattle.graph_format.specs.OptionalChunks.{dates_in}
+use Rattle.graph_chunks.specs.GraphStoredDates.{times_of, dates_of}
 use Rattle.graph_format.specs.StoredHistory.{layer_history, history_of}
-use Rattle.gix_commitgraph.specs.Graph.{graph_ids, graph_commits}
+use Rattle.gix_commitgraph.specs.Graph.{graph_ids, graph_commits, start, total}
 use Rattle.gix_commitgraph.proofs.layers.LayerListLemmas.{get-front}
 use Rattle.graph_writer.proofs.KnownSteps.{get-back}
 
@@ -35,6 +37,22 @@ pub history-top : (layers : List Layer) (layer : Layer)
     → history_of (layers ++ layer ∷ []) ≡ history_of layers ++ layer_history layer
 unfolding history_of
 history-top layers layer = parts-top layer_history layers layer
+
+pub start-front : (layers : List Layer) (layer : Layer) (i : ℕ) → i ≤ length layers
+    → start (layers ++ layer ∷ []) i ≡ start layers i
+unfolding start
+start-front layers layer i le = ap total (take-append-le i layers (layer ∷ []) le)
+
+pub times-top : (layers : List Layer) (layer : Layer) → times_of (layers ++ layer ∷ [])
+    ≡ times_of layers ++ map (λ place. (record_at place.0 place.1).time) (positions_from layer 0)
+unfolding times_of
+times-top layers layer =
+    let time_of : Layer × ℕ → ℕ = λ place. (record_at place.0 place.1).time in
+    ap (map time_of) (commits-top layers layer) ∙ map-append time_of (graph_commits layers) (positions_from layer 0)
+
+pub dates-top : (layers : List Layer) (layer : Layer) → dates_of (layers ++ layer ∷ []) ≡ dates_of layers ++ dates_in layer
+unfolding dates_of
+dates-top layers layer = parts-top dates_in layers layer
 
 -- the layer of bytes is that of an opened file
 pub opened-from : (bytes path : List ℕ) (layer : Layer) → IsLayer bytes path layer → IsOpened layer

@@ -1,5 +1,5 @@
 -- The plan that is read off new commits: when a file can hold it, and what its file says.
-use Rattle.std.proofs.Common.{◌≡◌, ◌↔◌, IsTrue, Bool, true, false, ℕ, ◌^◌, ◌<◌, ◌≤◌, List, Some, None, map, length, IsSomeAnd}
+use Rattle.std.proofs.Common.{◌≡◌, ◌↔◌, IsTrue, Bool, true, false, ℕ, ◌^◌, ◌<◌, ◌≤◌, List, [], Some, None, map, length, IsSomeAnd}
 use Rattle.std.proofs.Common.{slice_get, get_or, Option, option_map, refl, sym, subst, ⊎_elim, arith}
 use Rattle.std.specs.Prelude.{IfSome, MatchOption}
 use Rattle.std.proofs.lemmas.Bool.{cases_lt}
@@ -7,30 +7,33 @@ use Rattle.graph_walks.specs.Dates.{AreRight}
 use Rattle.graph_walks.specs.Generations.{AreLocal}
 use Rattle.graph_walks.specs.History.{Node}
 use Rattle.graph_walks.specs.declared.TheConstants.{GENERATION_NUMBER_MAX}
-use Rattle.graph_format.specs.Layer.{Layer, IsLayer}
+use Rattle.graph_format.specs.Layer.{Layer}
 use Rattle.graph_encoder.specs.ExtraEdges.{all_extra_words, top_bit}
 use Rattle.graph_encoder.specs.Plan.{IsPlan, AreOffsets, AreFilters}
 use Rattle.graph_encoder.specs.Said.{IsFileOf}
+use Rattle.graph_encoder.specs.Written.{planned_file}
 use Rattle.graph_levels.specs.OnTop.{HasOnTop, HasLevelGenerations, HasLevelDates, level_at}
 use Rattle.graph_levels.specs.ParentLists.{commit_count, parent_list}
 use Rattle.graph_levels.specs.declared.level.Level.{Level}
 use Rattle.graph_writer.specs.FiltersInOrder.{MaybeInOrder}
 use Rattle.graph_writer.specs.LevelsBelow.{AreLevelsBelow}
 use Rattle.graph_writer.specs.NewCommits.{new_times}
-use Rattle.graph_writer.specs.NewFilters.{HasFiltersOf}
 use Rattle.graph_writer.specs.NewLayers.{IsNewLayer}
 use Rattle.graph_writer.specs.PlannedCommits.{IsPlanOf, AreOffsetsOf, plan_of}
 use Rattle.graph_writer.specs.WriteRefusal.{new_layer_refusal, kind_to_write}
 use Rattle.graph_writer.specs.WritingRefusal.{word_count}
-use Rattle.graph_writer.specs.WrittenLayers.{IsWrittenLayer}
+use Rattle.graph_writer.specs.WrittenFiles.{IsWrittenWith}
 use Rattle.graph_writer.specs.declared.commit.NewCommit.{NewCommit}
 use Rattle.graph_writer.specs.declared.filters.NewFilters.{NewFilters}
 use Rattle.graph_writer.specs.declared.levels_below.LevelsBelow.{LevelsBelow}
 use Rattle.graph_writer.specs.declared.new_plan.NewPlan.{NewPlan}
 use Rattle.graph_writer.specs.declared.view.CommitView.{Ghosts}
 use Rattle.graph_writer.proofs.FilteredSteps.{filtered}
+use Rattle.graph_writer.proofs.PlanForSteps.{plan-for}
 use Rattle.graph_writer.proofs.PlanOfSteps.{planned-count, planned-each}
 use Rattle.graph_writer.proofs.PlanSteps.{all-words, is-plan}
+use Rattle.graph_writer.proofs.StaysRight.{stays-right}
+use Rattle.graph_writer.proofs.TopSteps.{opened-from}
 use Rattle.graph_writer.proofs.WriteSteps.{written}
 
 -- what is planned of each commit, by the levels that the plan has
@@ -88,9 +91,9 @@ view-fits plan layers own few same is_new none known below kind bases fits level
     is-plan layers plan.commits.now plan.new.now is_new own (plan_of plan) (planned-count plan) (view-planned plan own same)
     none known below kind bases fits leveled capped sized kept (omega (arith, few, view-words plan layers own same is_new))
 
--- its file is one of a layer with the commits
-pub view-written : {C : Type 0} {G : Ghosts C} (plan : NewPlan C G) (bytes path : List ℕ) → IsFileOf (plan_of plan) bytes path
-    → (layers : List Layer)
+-- its file is what was to be written of the commits
+pub view-written : {C : Type 0} {G : Ghosts C} (plan : NewPlan C G) (bytes : List ℕ) → bytes ≡ planned_file (plan_of plan)
+    → ((path : List ℕ) → IsFileOf (plan_of plan) bytes path) → (layers : List Layer)
     → IsNewLayer layers plan.commits.now plan.new.now → new_layer_refusal layers plan.commits.now ≡ None
     → (known : LevelsBelow) → AreLevelsBelow layers known → (times : List ℕ)
     → times ≡ map (λ i. get_or (new_times plan.commits.now) i 0) plan.new.now.order.items → (own : List Level)
@@ -104,15 +107,34 @@ pub view-written : {C : Type 0} {G : Ghosts C} (plan : NewPlan C G) (bytes path 
     → MatchOption (option_map (λ v. v.items) plan.offsets) (known.have_dates ≡ false)
     (λ offsets. (known.have_dates ≡ true) × AreOffsetsOf times own offsets)
     → (filters : Option NewFilters) → MaybeInOrder plan.new.now.order.items filters plan.filters
-    → (layer : Layer) × IsLayer bytes path layer × IsWrittenLayer layers plan.commits.now layer
-    × HasFiltersOf plan.commits.now filters layer
+    → IsWrittenWith layers plan.commits.now filters bytes
 unfolding plan_of
-view-written plan bytes path file layers is_new none known below times timed own same leveled local right kind bases few has
-    filters ordered = (
-      file.0,
-      file.1,
-      written layers plan.commits.now plan.new.now is_new none known below times timed own leveled local right (plan_of plan) kind
-          bases few (planned-count plan) (view-planned plan own same) has bytes path file.0 file.1 file.2,
-      filtered layers plan.commits.now plan.new.now is_new own (plan_of plan) (planned-count plan) (view-planned plan own same)
-          file.0 file.2 filters plan.filters ordered refl,
-    )
+view-written plan bytes layout files layers is_new none known below times timed own same leveled local right kind bases few has
+    filters ordered =
+    let commits : List NewCommit = plan.commits.now in
+    let counted = planned-count plan in
+    let planned = view-planned plan own same in
+    let all_written =
+    λ (path : List ℕ). written layers commits plan.new.now is_new none known below times timed own leveled local right
+    (plan_of plan) kind bases few counted planned has bytes path (files path).0 (files path).1 (files path).2 in
+    let first = files [] in
+    record {
+      planned = (
+        plan_of plan,
+        plan-for layers commits plan.new.now is_new none known below own leveled (plan_of plan) counted planned first.0 first.2
+            times has (all_written []) local filters plan.filters ordered refl kind bases,
+        layout,
+      );
+      file = λ path.
+          let here = files path in
+          let kept =
+          filtered layers commits plan.new.now is_new own (plan_of plan) counted planned here.0 here.2 filters plan.filters
+          ordered refl in (
+            here.0,
+            here.1,
+            all_written path,
+            kept,
+            stays-right layers commits plan.new.now is_new none known below own leveled (plan_of plan) counted planned here.0
+                here.2 (opened-from bytes path here.0 here.1) times has (all_written path) filters kept,
+          );
+    }

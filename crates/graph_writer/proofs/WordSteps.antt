@@ -20,6 +20,7 @@ use Rattle.graph_writer.specs.NewLayers.{IsNewLayer, ids_in_order}
 use Rattle.graph_writer.specs.WritingRefusal.{words_for, word_count}
 use Rattle.graph_writer.specs.declared.commit.NewCommit.{NewCommit}
 use Rattle.graph_writer.specs.declared.new_layer.NewLayer.{NewLayer}
+use Rattle.graph_writer.proofs.FirstSteps.{first-hold}
 use Rattle.graph_writer.proofs.SumSteps.{sum-all}
 
 -- the parents of the commits, one list for each
@@ -85,7 +86,7 @@ module _ (layers : List Layer) (commits : List NewCommit) (new : NewLayer) (is_n
       let at = some-place new.order.items p (omega (arith, size, is_new.as_many)) in
       let here = some-place commits at.0 (all-at (λ i. i < length commits) new.order.items p at.0 is_new.each at.1) in
       let holds : HoldIds (graph_ids layers ++ ids_in_order commits new.order.items) (parent_list new.parents p)
-      here.0.parents.items = is_new.parents p at.0 here.0 at.1 here.1 in
+      here.0.parents.items = first-hold _ _ _ (is_new.parents p at.0 here.0 at.1 here.1) in
       get_or_from_slice_get (map words_in (lists_of new)) p (words_in (parent_list new.parents p)) d
       (slice_get-map words_in (lists_of new) p
       ∙ ap (option_map words_in)

@@ -22,6 +22,7 @@ use Rattle.graph_writer.specs.PlannedCommits.{IsPlanOf}
 use Rattle.graph_writer.specs.WrittenLayers.{SaysNewCommit, HasNewCommits}
 use Rattle.graph_writer.specs.declared.commit.NewCommit.{NewCommit}
 use Rattle.graph_writer.specs.declared.new_layer.NewLayer.{NewLayer}
+use Rattle.graph_writer.proofs.FirstSteps.{first-hold}
 use Rattle.graph_writer.proofs.TopSteps.{ids-top}
 
 -- what is there, where something is said of it
@@ -133,7 +134,7 @@ module _ (layers : List Layer) (commits : List NewCommit) (new : NewLayer) (is_n
         let positions : map (λ (pos : Position). pos.0) (parents_of r layer.edges).positions ≡ parent_list new.parents p =
         ap (λ d. map (λ (pos : Position). pos.0) d.positions) is.parents ∙ plain-positions (parent_list new.parents p) in
         let holds : HoldIds (graph_ids layers ++ ids_in_order commits new.order.items) (parent_list new.parents p)
-        commit.parents.items = is_new.parents p i commit at here in
+        commit.parents.items = first-hold _ _ _ (is_new.parents p i commit at here) in
         let says_it : SaysNewCommit (graph_ids (layers ++ layer ∷ [])) layer commit r = record {
           tree = is.tree ∙ ap (λ (c : NewCommit). c.tree) same;
           time = is.time ∙ ap (λ (c : NewCommit). c.time) same;

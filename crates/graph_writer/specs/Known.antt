@@ -1,11 +1,12 @@
 -- Where each commit stands whose id a parent may have. For private contracts alone.
-use Rattle.std.specs.Prelude.{◌≡◌, ◌++◌, ℕ, ◌+◌, ◌<◌, ◌^◌, Bool, List, length}
+use Rattle.std.specs.Prelude.{◌≡◌, ◌++◌, ℕ, ◌+◌, ◌<◌, ◌^◌, Bool, List, None, length}
+use Rattle.gix_chunk_core.specs.FirstFault.{first_below}
 use Rattle.gix_commitgraph.specs.Graph.{graph_ids, total}
 use Rattle.graph_format.specs.Layer.{Layer}
 use Rattle.graph_writer.specs.NewCommits.{layers_of_below}
 use Rattle.graph_writer.specs.NewLayers.{ids_in_order}
 use Rattle.graph_writer.specs.SortedPlaces.{IsOrder}
-use Rattle.graph_writer.specs.WriteRefusal.{is_unknown}
+use Rattle.graph_writer.specs.WriteRefusal.{is_unknown, below_at}
 use Rattle.graph_writer.specs.declared.resolve.Known.{Known}
 
 -- the layers below, none where there is no graph
@@ -27,8 +28,9 @@ new_ids_in_order known = ids_in_order known.commits.now known.order.now
 abbrev pub all_ids : {C : Type 0} → Known C → List (List ℕ)
 all_ids known = ids_below known ++ new_ids_in_order known
 
--- The order is that of the commits, which are few enough for positions.
+-- The order is that of the commits, which are few enough for positions, and none of which stands below.
 pub record IsKnown {C : Type 0} (known : Known C) : Type 0 where
   pub start : known.start ≡ total (layers_below known)
   pub order : IsOrder known.commits.now known.order.now
   pub few : known.start + length known.commits.now < 2 ^ 32
+  pub fresh : first_below (below_at (ids_below known) known.commits.now) (length known.commits.now) ≡ None

@@ -10,4 +10,8 @@ pub mod OwnLevels
 pub mod PlannedCommits
 pub mod WrittenLayers
 pub mod NewFilters
+pub mod LayerPlans
+pub mod RightThroughout
+pub mod WrittenFiles
+pub mod Reordered
 pub mod FiltersInOrder

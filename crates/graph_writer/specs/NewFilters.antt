@@ -8,9 +8,8 @@ use Rattle.graph_format.specs.OptionalChunks.{index_in, data_in}
 use Rattle.graph_chunks.specs.StoredFilters.{layer_filters_refusal}
 use Rattle.graph_encoder.specs.StoredNumbers.{stored_filter_numbers}
 use Rattle.graph_encoder.specs.declared.filters.FilterNumbers.{FilterNumbers}
-use Rattle.graph_format.specs.Layer.{Layer, IsLayer}
+use Rattle.graph_format.specs.Layer.{Layer}
 use Rattle.graph_levels.specs.ListEnds.{start_in}
-use Rattle.graph_writer.specs.WrittenLayers.{IsWrittenLayer}
 use Rattle.graph_writer.specs.declared.commit.NewCommit.{NewCommit}
 use Rattle.graph_writer.specs.declared.filters.NewFilters.{NewFilters}
 use denote.Ref.{Bor}
@@ -54,13 +53,3 @@ pub record HasNewFilters (commits : List NewCommit) (filters : NewFilters) (laye
 abbrev pub HasFiltersOf : List NewCommit → Option NewFilters → Layer → Type 0
 HasFiltersOf commits filters layer =
     MatchOption filters ((index_in layer ≡ None) × (data_in layer ≡ None)) (λ f. HasNewFilters commits f layer)
-
--- The bytes are a file of a layer of these commits with these filters, whatever its name.
-abbrev pub IsWrittenWith : List Layer → List NewCommit → Option NewFilters → List ℕ → Type 0
-IsWrittenWith layers commits filters bytes =
-    (path : List ℕ) → (layer : Layer) × IsLayer bytes path layer × IsWrittenLayer layers commits layer
-    × HasFiltersOf commits filters layer
-
--- The bytes are a file of a layer of these commits, which has no filters, whatever its name.
-abbrev pub IsWritten : List Layer → List NewCommit → List ℕ → Type 0
-IsWritten layers commits bytes = IsWrittenWith layers commits None bytes

@@ -9,6 +9,7 @@ mod filters;
 mod guide;
 mod handed;
 mod ids;
+mod law;
 mod levels_below;
 mod new_layer;
 mod new_plan;
@@ -21,6 +22,7 @@ mod write;
 
 pub use commit::{NewCommit, WriteError};
 pub use filters::NewFilters;
+pub use law::{a_layer_has_one_file, a_layer_has_one_plan, the_order_of_commits_does_not_matter};
 pub use new_layer::NewLayer;
 pub use view::CommitView;
 pub use write::{write_layer, write_layer_of, write_layer_with_filters};

@@ -8,7 +8,7 @@ ghost use Rattle.gix_chunk_core.specs.FirstFault.{first_below};
 ghost use Rattle.gix_hash_core.specs.Oid.{oid_bytes};
 ghost use Rattle.graph_levels.specs.ParentLists.{commit_count, parent_list};
 ghost use Rattle.graph_format.specs.Lookup.{scan};
-ghost use Rattle.graph_writer.specs.NewCommits.{new_ids, HoldIds};
+ghost use Rattle.graph_writer.specs.NewCommits.{new_ids, AreFirst};
 ghost use Rattle.graph_writer.specs.NewLayers.{times_in_order};
 ghost use Rattle.graph_writer.specs.WriteRefusal.{parent_at};
 ghost use Rattle.graph_writer.specs.declared.commit.NewCommit.{NewCommit};
@@ -97,8 +97,8 @@ impl<C: CommitView> Known<'_, C> {
         requires { IsKnown self.now }
         ensures none { is_none result ≡ is_unknown_to self.now (oid_bytes id.entry) }
         ensures within { IfSome result (λ p. p < self.now.start + length self.now.commits.now) }
-        ensures id { IfSome result (λ p.
-            slice_get (all_ids self.now) p ≡ Some (oid_bytes id.entry)) }
+        ensures first { IfSome result (λ p.
+            scan (all_ids self.now) (oid_bytes id.entry) ≡ Some p) }
     {
         match self.place_of(id, guess) {
             Some(place) => Some(self.start + place as u32),
@@ -130,7 +130,7 @@ impl<C: CommitView> Known<'_, C> {
         ensures within { IfOk result (λ unknown. IfNone unknown
             (All (λ p. p < self.now.start + length self.now.commits.now) positions.new.items)) }
         ensures ids { IfOk result (λ unknown. IfNone unknown
-            (HoldIds (all_ids self.now) positions.new.items commit.now.parents.items)) }
+            (AreFirst (all_ids self.now) positions.new.items commit.now.parents.items)) }
     {
         positions.clear();
         for number in 0..commit.parent_count() {
@@ -191,7 +191,7 @@ impl<C: CommitView> Known<'_, C> {
         ensures ids { IfOk result (λ found. (p i : ℕ) (commit : NewCommit)
             → slice_get self.now.order.now p ≡ Some i
             → slice_get self.now.commits.now i ≡ Some commit
-            → HoldIds (all_ids self.now) (parent_list found.0 p) commit.parents.items) }
+            → AreFirst (all_ids self.now) (parent_list found.0 p) commit.parents.items) }
         ensures times { IfOk result (λ found. found.1.items
             ≡ times_in_order self.now.commits.now self.now.order.now) }
         ensures found { IfOk result (λ _.

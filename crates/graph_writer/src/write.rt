@@ -10,10 +10,10 @@ ghost use Rattle.graph_levels.specs.OnTop.{HasLevelGenerations, HasNoCycleOnTop,
 ghost use Rattle.graph_levels.specs.OnTop.{level_at};
 ghost use Rattle.graph_levels.specs.ParentLists.{commit_count};
 ghost use Rattle.graph_writer.specs.NewCommits.{layers_of_below};
-ghost use Rattle.graph_writer.specs.NewFilters.{filter_count, filters_handed, IsWritten};
-ghost use Rattle.graph_writer.specs.NewFilters.{IsWrittenWith};
+ghost use Rattle.graph_writer.specs.NewFilters.{filter_count, filters_handed};
 ghost use Rattle.graph_writer.specs.OwnLevels.{MayHaveNoLevels};
 ghost use Rattle.graph_writer.specs.WritingRefusal.{AreAccepted, MayRefuseWriting};
+ghost use Rattle.graph_writer.specs.WrittenFiles.{IsWritten, IsWrittenWith};
 
 use crate::commit::{NewCommit, WriteError};
 use crate::filters::NewFilters;
@@ -34,7 +34,8 @@ const MOST_BELOW: usize = 255;
 
 /// The bytes of a layer with these commits, on top of a graph or on none: what Git writes of them
 /// without changed-path filters (gitformat-commit-graph). The layer has corrected dates where all
-/// layers below have them, and where there are none below.
+/// layers below have them, and where there are none below. Layers and commits fix each byte, and
+/// the order of the commits changes none.
 ///
 /// # Errors
 ///

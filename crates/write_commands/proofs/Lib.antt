@@ -6,3 +6,4 @@ pub mod SameSteps
 pub mod CarriedSteps
 pub mod PlainSteps
 pub mod ReasonSteps
+pub mod ThroughoutSteps

@@ -8,3 +8,4 @@ pub mod CarriedFilters
 pub mod MergedCommits
 pub mod SameCommits
 pub mod MergeReasons
+pub mod ShortOfMemory

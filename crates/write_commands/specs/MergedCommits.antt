@@ -4,7 +4,7 @@ use Rattle.graph_format.specs.Layer.{Layer}
 use Rattle.graph_layer.specs.declared.opening.error.OpenError.{OpenError}
 use Rattle.gix_commitgraph.specs.Graph.{total}
 use Rattle.gix_commitgraph.specs.Sound.{Sound}
-use Rattle.graph_writer.specs.NewFilters.{IsWrittenWith}
+use Rattle.graph_writer.specs.WrittenFiles.{IsWrittenWith}
 use Rattle.graph_writer.specs.WritingRefusal.{MayRefuseWriting}
 use Rattle.graph_writer.specs.declared.commit.NewCommit.{NewCommit}
 use Rattle.graph_writer.specs.declared.commit.WriteError.{WriteError}

@@ -6,7 +6,7 @@ use Rattle.graph_format.specs.Layer.{Layer}
 use Rattle.graph_layer.specs.declared.opening.error.OpenError.{OpenError}
 use Rattle.gix_commitgraph.specs.Sound.{Sound}
 use Rattle.graph_commands.specs.declared.refusal.Refusal.{Refusal}
-use Rattle.graph_writer.specs.NewFilters.{IsWritten}
+use Rattle.graph_writer.specs.WrittenFiles.{IsWritten}
 use Rattle.graph_writer.specs.WritingRefusal.{MayRefuseWriting}
 use Rattle.graph_writer.specs.declared.commit.NewCommit.{NewCommit}
 use Rattle.history_commands.specs.Check.{MayRefuseToStart}

@@ -2,7 +2,7 @@ use Rattle.std.proofs.Common.{◌≡◌, Result, Ok, Err, IfOk, IfErr, List, ℕ
 use Rattle.graph_format.specs.Layer.{Layer}
 use Rattle.graph_writer.specs.NewCommits.{layers_of_below}
 use Rattle.graph_writer.specs.WriteRefusal.{new_layer_refusal}
-use Rattle.graph_writer.specs.NewFilters.{IsWritten}
+use Rattle.graph_writer.specs.WrittenFiles.{IsWritten}
 use Rattle.graph_writer.specs.declared.commit.WriteError.TheVariants as error
 use Rattle.graph_writer.proofs.RefusalSteps.{plain-none}
 use Rattle.c_writing.specs.HandedIn.{AreHandedIn}

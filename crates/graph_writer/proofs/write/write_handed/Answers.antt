@@ -160,7 +160,7 @@ build_view-requires g c =
     c.in_ok-new.new.order.items c.deref-6.ensures.value c.in_ok-filters_in_order.ensures))
 
 pub returns-clause-written : goal.returns-clause-written
-returns-clause-written g c path =
+returns-clause-written g c =
     let layers : List Layer = layers_of_below c.args.below in
     let commits : List NewCommit = c.args.commits.now in
     let new = c.in_ok-new.new in
@@ -187,7 +187,7 @@ returns-clause-written g c path =
     → HasOnTop history (length c.deref.result.now) new.parents
     → HasLevelDates history ts ds c.deref.result.now own all → AreRight history ts ds) c.deref-2.ensures.value
     c.in_ok-own.ensures.dates) in
-    view-written _ c.in_ok-build_view.field-0.items path (c.in_ok-build_view.ensures.layer path) layers
+    view-written _ c.in_ok-build_view.field-0.items c.in_ok-build_view.ensures.layout c.in_ok-build_view.ensures.layer layers
     c.in_ok-new.ensures.layer c.in_ok-new.ensures.accepted known
     c.in_ok-known.ensures.levels times
     c.in_ok-new.ensures.times

@@ -1,7 +1,7 @@
 use Rattle.std.proofs.Common.{List, subst}
 use Rattle.std.specs.Prelude.{IfOk, IfErr}
 use Rattle.graph_writer.specs.NewCommits.{layers_of_below}
-use Rattle.graph_writer.specs.NewFilters.{IsWritten}
+use Rattle.graph_writer.specs.WrittenFiles.{IsWritten}
 use Rattle.graph_writer.specs.WritingRefusal.{AreAccepted, MayRefuseWriting}
 use Rattle.graph_writer.specs.declared.commit.NewCommit.{NewCommit}
 use Rattle.graph_writer.proofs.write.write_layer_of.Goals as goal

@@ -1,7 +1,8 @@
 use Rattle.std.proofs.Common.{List, subst}
 use Rattle.std.specs.Prelude.{IfOk}
 use Rattle.graph_writer.specs.NewCommits.{layers_of_below}
-use Rattle.graph_writer.specs.NewFilters.{filters_handed, IsWrittenWith}
+use Rattle.graph_writer.specs.NewFilters.{filters_handed}
+use Rattle.graph_writer.specs.WrittenFiles.{IsWrittenWith}
 use Rattle.graph_writer.specs.declared.commit.NewCommit.{NewCommit}
 use Rattle.graph_writer.proofs.write.write_layer_with_filters.Goals as goal
 

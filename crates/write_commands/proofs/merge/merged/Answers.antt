@@ -1,5 +1,6 @@
 use Rattle.std.proofs.Common.{◌≡◌, List, [], ℕ, Option, subst}
-use Rattle.graph_writer.specs.NewFilters.{IsWrittenWith, filters_handed}
+use Rattle.graph_writer.specs.NewFilters.{filters_handed}
+use Rattle.graph_writer.specs.WrittenFiles.{IsWrittenWith}
 use Rattle.graph_writer.specs.declared.commit.NewCommit.{NewCommit}
 use Rattle.graph_writer.specs.declared.filters.NewFilters.{NewFilters}
 use Rattle.write_commands.proofs.merge.merged.Goals as goal

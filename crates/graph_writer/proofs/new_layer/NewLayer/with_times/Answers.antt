@@ -6,7 +6,7 @@ use Rattle.gix_commitgraph.specs.Graph.{graph_ids, total}
 use Rattle.graph_format.specs.Layer.{Layer}
 use Rattle.graph_format.specs.declared.TheConstants.{MAX_COMMITS}
 use Rattle.graph_levels.specs.ParentLists.{commit_count, parent_list}
-use Rattle.graph_writer.specs.NewCommits.{layers_of_below, HoldIds}
+use Rattle.graph_writer.specs.NewCommits.{layers_of_below, AreFirst}
 use Rattle.graph_writer.specs.NewLayers.{ids_in_order, times_in_order}
 use Rattle.graph_writer.specs.SortedPlaces.{IsOrder}
 use Rattle.graph_writer.specs.declared.commit.NewCommit.{NewCommit}
@@ -80,6 +80,7 @@ resolve-requires g c = record {
   start = c.number_below-start.ensures.commits;
   order = subst (IsOrder c.args.commits.now) (sym c.deref-2.ensures.value) c.in_ok-order.ensures.order;
   few = omega (arith, c.if-len-start.false, c.len.ensures, c.number_below-start.ensures.few);
+  fresh = c.in_ok-check_all_new.ensures;
 }
 
 pub returns-clause-layer : goal.returns-clause-layer
@@ -94,7 +95,7 @@ returns-clause-layer g c =
     c.number_below-start.ensures.commits c.in_ok-parents.ensures.within)
     (subst
     (λ (xs : List ℕ). (p i : ℕ) (commit : NewCommit) → slice_get xs p ≡ Some i → slice_get commits i ≡ Some commit
-    → HoldIds (graph_ids layers ++ ids_in_order commits xs) (parent_list parents p) commit.parents.items)
+    → AreFirst (graph_ids layers ++ ids_in_order commits xs) (parent_list parents p) commit.parents.items)
     c.deref-2.ensures.value c.in_ok-parents.ensures.ids)
 
 pub returns-clause-accepted : goal.returns-clause-accepted

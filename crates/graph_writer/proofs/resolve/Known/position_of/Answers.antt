@@ -1,7 +1,8 @@
 use Rattle.std.proofs.Common.{length, arith}
 use Rattle.gix_hash_core.specs.Oid.{oid_bytes}
 use Rattle.graph_writer.specs.Known.{layers_below, new_ids_in_order}
-use Rattle.graph_writer.proofs.KnownSteps.{new-at, below-bound, below-ids}
+use Rattle.graph_writer.proofs.FirstSteps.{new-first, below-first}
+use Rattle.graph_writer.proofs.KnownSteps.{below-bound}
 use Rattle.graph_writer.proofs.SearchSteps.{place-within}
 use Rattle.graph_writer.proofs.resolve.Known.position_of.Goals as goal
 
@@ -13,11 +14,11 @@ returns-in-Some-clause-within g c =
       place-within k.commits.now k.order.now c.in-Some.place (oid_bytes c.args.id) c.requires.order c.in-Some.ensures.some,
     )
 
-pub returns-in-Some-clause-id : goal.returns-in-Some-clause-id
-returns-in-Some-clause-id g c =
+pub returns-in-Some-clause-first : goal.returns-in-Some-clause-first
+returns-in-Some-clause-first g c =
     let k = c.args.self.now in
-    new-at (layers_below k) (new_ids_in_order k) k.start c.in-Some.place (oid_bytes c.args.id) c.requires.start
-    c.in-Some.ensures.some
+    new-first (layers_below k) k.commits.now k.order.now k.start c.in-Some.place (oid_bytes c.args.id) c.requires.start
+    c.requires.order c.requires.fresh c.in-Some.ensures.some
 
 pub returns-in-None-clause-within : goal.returns-in-None-clause-within
 returns-in-None-clause-within g c =
@@ -25,7 +26,7 @@ returns-in-None-clause-within g c =
     below-bound (layers_below k) (oid_bytes c.args.id) k.start (length k.commits.now) c.position_below.result c.requires.start
     c.position_below.ensures
 
-pub returns-in-None-clause-id : goal.returns-in-None-clause-id
-returns-in-None-clause-id g c =
+pub returns-in-None-clause-first : goal.returns-in-None-clause-first
+returns-in-None-clause-first g c =
     let k = c.args.self.now in
-    below-ids (layers_below k) (new_ids_in_order k) (oid_bytes c.args.id) c.position_below.result c.position_below.ensures
+    below-first (layers_below k) (new_ids_in_order k) (oid_bytes c.args.id) c.position_below.result c.position_below.ensures

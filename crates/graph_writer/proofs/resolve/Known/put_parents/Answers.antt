@@ -1,10 +1,11 @@
-use Rattle.std.proofs.Common.{◌≡◌, ◌+◌, ◌<◌, ◌++◌, ◌∷◌, [], ℕ, List, Option, Some, Bool, length, map, take, slice_get, get_or}
-use Rattle.std.proofs.Common.{position, sym, ap, ◌∙◌, arith, add-one, below_more}
+use Rattle.std.proofs.Common.{◌≡◌, ◌+◌, ◌<◌, ◌++◌, ◌∷◌, [], ℕ, List, Option, Some, Bool, length, map, take, get_or}
+use Rattle.std.proofs.Common.{sym, ap, ◌∙◌, arith, add-one, below_more}
 use Rattle.std.proofs.Math.Seq.{take-suc}
 use Rattle.std.proofs.lemmas.List.{map_push}
 use Rattle.std.proofs.lemmas.Option.{get_or_from_slice_get}
 use Rattle.gix_hash_core.specs.Oid.{oid_bytes}
 use Rattle.std.proofs.lemmas.List.Elements.{All-push, All-same}
+use Rattle.graph_format.specs.Lookup.{scan}
 use Rattle.graph_writer.specs.Known.{is_unknown_to, all_ids}
 use Rattle.graph_writer.proofs.KnownSteps.{position-at, position-none}
 use Rattle.graph_writer.proofs.resolve.Known.put_parents.Goals as goal
@@ -39,14 +40,14 @@ loop-number-preserved g c =
           All-same (λ (q : ℕ). q < k.start + length k.commits.now) c.push.new.self.items (old ++ c.in-Some.position ∷ []) pushed
           (All-push (λ (q : ℕ). q < k.start + length k.commits.now) old c.in-Some.position inv.within c.in-Some.ensures.within);
       ids =
-          let f : ℕ → Option (List ℕ) = slice_get (all_ids k) in
-          let some : List ℕ → Option (List ℕ) = λ id. Some id in
-          ap (map f) pushed
-          ∙ map_push f old c.in-Some.position
-          ∙ ap (λ (os : List (Option (List ℕ))). os ++ f c.in-Some.position ∷ []) inv.ids
-          ∙ ap (λ (o : Option (List ℕ)). map some (take n xs) ++ o ∷ []) (c.in-Some.ensures.id ∙ ap some (sym read))
-          ∙ sym (map_push some (take n xs) (get_or xs n []))
-          ∙ ap (map some) (sym taken);
+          let f : List ℕ → Option ℕ = scan (all_ids k) in
+          let some : ℕ → Option ℕ = λ q. Some q in
+          ap (map some) pushed
+          ∙ map_push some old c.in-Some.position
+          ∙ ap (λ (os : List (Option ℕ)). os ++ some c.in-Some.position ∷ []) inv.ids
+          ∙ ap (λ (o : Option ℕ). map f (take n xs) ++ o ∷ []) (sym (ap f read ∙ c.in-Some.ensures.first))
+          ∙ sym (map_push f (take n xs) (get_or xs n []))
+          ∙ ap (map f) (sym taken);
     }
 
 pub returns-clause-unknown : goal.returns-clause-unknown

@@ -4,7 +4,7 @@ use Rattle.std.proofs.lemmas.List.{get_or_default, take_all}
 use Rattle.std.proofs.lemmas.Option.{slice_get_within, slice_get-get_or, slice_get-map, get_or_from_slice_get, same_Some}
 use Rattle.graph_levels.specs.ParentLists.{commit_count, parent_list}
 use Rattle.graph_writer.specs.Known.{ids_below, all_ids}
-use Rattle.graph_writer.specs.NewCommits.{HoldIds, new_times}
+use Rattle.graph_writer.specs.NewCommits.{AreFirst, new_times}
 use Rattle.graph_writer.specs.NewLayers.{times_in_order}
 use Rattle.graph_writer.specs.declared.commit.NewCommit.{NewCommit}
 use Rattle.graph_writer.proofs.KnownSteps.{parent-from, if-none, lists-more, found-more, all-found, AreFoundTo}
@@ -56,14 +56,14 @@ loop-place-preserved g c =
       ids =
           lists-more
           (λ q ps. (j : ℕ) (other : NewCommit) → slice_get order q ≡ Some j → slice_get k.commits.now j ≡ Some other
-          → HoldIds (all_ids k) ps other.parents.items)
+          → AreFirst (all_ids k) ps other.parents.items)
           c.loop-place.lists c.push.new.self p c.put_parents.new.positions.items inv.count added.old last inv.ids
           (λ j other at_j there.
           let number : i ≡ j = same_Some i j (sym at ∙ at_j) in
           let same : commit ≡ other =
           same_Some commit other (sym here ∙ ap (slice_get k.commits.now) number ∙ there) in
           subst
-          (λ (x : NewCommit). HoldIds (all_ids k) c.put_parents.new.positions.items x.parents.items) same
+          (λ (x : NewCommit). AreFirst (all_ids k) c.put_parents.new.positions.items x.parents.items) same
           (if-none c.in_ok-parent.field-0 _ c.in_ok-parent.ensures.ids none));
       found =
           found-more k p i at
