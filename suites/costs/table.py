@@ -125,7 +125,7 @@ QUESTIONS = (
     *both("ask parents", ("alike", "parents", "lists"), LINEAR, LINEAR),
     *both("ask parents", FEW, CONSTANT, CONSTANT),
     Row("ask reload", ("lines", "lists", "tower"), LINEAR.at_most(6), LINEAR),
-    Row("ask reload", ("layers",), LINEAR.at_most(15), LINEAR),
+    Row("ask reload", ("layers",), BY_BYTES.at_most(15), LINEAR),
     Row("ask reload", FEW, LINEAR.at_most(1), LINEAR),
     Row("ask reload --unchecked", ("lines", "lists", "tower"), LINEAR.at_most(1), CONSTANT),
     Row("ask reload --unchecked", ("layers",), LINEAR, BY_BYTES),
