@@ -1,10 +1,9 @@
 -- which commits lookups find in the graph that was opened
-use Rattle.std.proofs.Common.{◌≡◌, ℕ, suc, ◌+◌, ◌<◌, List, [], ◌∷◌, ◌++◌, All, Some, None, Vec, take, slice_get}
-use Rattle.std.proofs.Common.{ap, arith, refl, sym, subst, ◌∙◌}
+use Rattle.std.proofs.Common.{◌≡◌, ℕ, ◌+◌, ◌<◌, List, [], ◌∷◌, ◌++◌, All, Some, None, Vec, take, slice_get}
+use Rattle.std.proofs.Common.{ap, refl, sym, subst, ◌∙◌}
 use Rattle.std.specs.Global.{Global}
 use Rattle.std.specs.List.{AllZip}
 use Rattle.std.proofs.lemmas.List.{map-append, take_more}
-use Rattle.std.proofs.lemmas.List.Elements.{All-cons, All-nil}
 use Rattle.std.proofs.lemmas.Option.{get_or_from_slice_get, slice_get_within}
 use Rattle.graph_format.specs.Layer.{Layer}
 use Rattle.graph_format.specs.declared.Position.{Position}
@@ -12,7 +11,9 @@ use Rattle.gix_commitgraph.specs.GraphLookup.{FoundIn}
 use Rattle.commit_search.specs.Positions.{numbers_of}
 use Rattle.graph_unchecked.specs.PartLookups.{AreFirstAndOthers, AreOthersFound}
 use Rattle.graph_unchecked.specs.Unchecked.{IsFoundAmong, IsFoundAt}
-use Rattle.graph_unchecked.specs.declared.among.Among.TheVariants.{Missing, Known as known_of_all}
+use Rattle.answers.specs.declared.answer.Answer.TheVariants.{Unknown, Known}
+use Rattle.answers.specs.FoundOf.{OfFirst}
+use Rattle.answers.proofs.FoundLemmas.{all_found, first_missing, later_missing}
 
 -- positions of as many commits
 pub within-as : (n m : ℕ) (positions : List Position) → n ≡ m → All (λ (pos : Position). pos.0 < n) positions
@@ -43,41 +44,27 @@ module _ (layers : List Layer) where
       (sym (take_push ids i id at))
       (zip_push (IsFoundAt layers) (take i ids) (numbers_of found) id pos.0 before here))
 
-  all-found : (ids : List (List ℕ)) (positions : List ℕ) → AllZip (IsFoundAt layers) ids positions
-      → All (λ (id : List ℕ). (p : ℕ) × IsFoundAt layers id p) ids
-  all-found [] positions zip = All-nil (λ (i : List ℕ). (q : ℕ) × IsFoundAt layers i q)
-  all-found (id ∷ ids) [] zip = absurd zip
-  all-found (id ∷ ids) (p ∷ positions) zip =
-      All-cons (λ (i : List ℕ). (q : ℕ) × IsFoundAt layers i q) id ids (p, zip.0) (all-found ids positions zip.1)
-
   -- one is not found
   pub not-found : (ids : List (List ℕ)) (positions : List ℕ) (i : ℕ) (id : List ℕ)
       → AllZip (IsFoundAt layers) (take i ids) positions → slice_get ids i ≡ Some id → FoundIn layers id None
-      → AreOthersFound layers ids (Missing (i + 2))
-  not-found ids positions i id before at none = (i, refl, all-found (take i ids) positions before, (id, at, none))
+      → AreOthersFound layers ids (Unknown (i + 2))
+  not-found ids positions i id before at none =
+      (i, refl, all_found (FoundIn layers) (take i ids) positions before, (id, at, none))
 
   -- with the first id
   pub none-of-first : (first : List ℕ) (others : List (List ℕ)) → FoundIn layers first None
-      → IsFoundAmong AreFirstAndOthers (first ∷ others) layers (Missing 1)
-  none-of-first first others none = (
-    0,
-    refl,
-    All-nil (λ (i : List ℕ). (q : ℕ) × IsFoundAt layers i q),
-    (first, refl, none),
-  )
+      → IsFoundAmong AreFirstAndOthers (first ∷ others) layers (Unknown 1)
+  none-of-first first others none = first_missing (FoundIn layers) (OfFirst (AreFirstAndOthers layers)) first others none
 
   pub some-of-others : (first : List ℕ) (p : ℕ) (others : List (List ℕ)) (number : ℕ) → IsFoundAt layers first p
-      → AreOthersFound layers others (Missing number)
-      → IsFoundAmong AreFirstAndOthers (first ∷ others) layers (Missing number)
-  some-of-others first p others number here found = (
-    suc found.0,
-    omega (arith, found.1),
-    All-cons (λ (i : List ℕ). (q : ℕ) × IsFoundAt layers i q) first (take found.0 others) (p, here) found.2,
-    found.3,
-  )
+      → AreOthersFound layers others (Unknown number)
+      → IsFoundAmong AreFirstAndOthers (first ∷ others) layers (Unknown number)
+  some-of-others first p others number here found =
+      subst (λ (n : ℕ). IsFoundAmong AreFirstAndOthers (first ∷ others) layers (Unknown n)) (sym found.1)
+      (later_missing (FoundIn layers) (OfFirst (AreFirstAndOthers layers)) first others p found.0 here found.2 found.3)
 
   pub all-of-others : (first : List ℕ) (pos : Position) (others : List (List ℕ)) (positions : Vec Position Global)
-      → IsFoundAt layers first pos.0 → AreOthersFound layers others (known_of_all positions)
-      → IsFoundAmong AreFirstAndOthers (first ∷ others) layers (known_of_all (pos, positions))
+      → IsFoundAt layers first pos.0 → AreOthersFound layers others (Known positions)
+      → IsFoundAmong AreFirstAndOthers (first ∷ others) layers (Known (pos, positions))
   all-of-others first pos others positions here found =
-      (pos.0, numbers_of positions.items, (here, found), (refl, refl))
+      (pos.0 ∷ numbers_of positions.items, (here, found), (refl, refl))

@@ -1,7 +1,6 @@
 -- what is asked of a graph of which parts are kept
-use Rattle.std.proofs.Common.{◌∙◌, ◌∷◌, ℕ, List, Option, Result, Ok, Err, IfOk, Vec, subst}
+use Rattle.std.proofs.Common.{◌∙◌, [], ◌∷◌, ℕ, List, Option, Result, Ok, Err, IfOk, Vec}
 use Rattle.std.specs.Global.{Global}
-use Rattle.std.specs.List.{AllZip}
 use Rattle.std.specs.Option.{ForSome}
 use Rattle.graph_folder.specs.Tree.{Tree}
 use Rattle.graph_format.specs.Layer.{Layer}
@@ -16,9 +15,8 @@ use Rattle.graph_parts.proofs.TreeLemmas.{seen-shown}
 use Rattle.graph_unchecked.specs.PartSource.{ReadsOn}
 use Rattle.graph_unchecked.specs.PartLookups.{AreBoth, AreFirstAndOthers}
 use Rattle.graph_unchecked.specs.Trusted.{IsTrustedAt}
-use Rattle.graph_unchecked.specs.Unchecked.{IsAnswerAt, IsFoundAmong, IsFoundAt, IsFoundBetween}
-use Rattle.graph_unchecked.specs.declared.among.Among.TheVariants.{Known as known_of_all}
-use Rattle.graph_unchecked.specs.declared.between.Between.TheVariants.{Known}
+use Rattle.graph_unchecked.specs.Unchecked.{IsAnswerAt, IsFoundAmong, IsFoundBetween}
+use Rattle.answers.specs.declared.answer.Answer.TheVariants.{Known}
 use Rattle.graph_unchecked.proofs.SearchLemmas.{shows-after}
 
 -- parts that are read one after another
@@ -97,22 +95,15 @@ answer-seen known path old new IsSo (Err e) sees so of tree is = tt
 pub both-found : {A : Type 0} (IsSo : List Layer → ℕ → ℕ → A → Type 0) (first second : List ℕ) (both : Position × Position)
     (answer : A) (layers : List Layer) → IsFoundBetween AreBoth first second layers (Known both)
     → IsSo layers both.0.0 both.1.0 answer → IsFoundBetween IsSo first second layers (Known answer)
-both-found IsSo first second both answer layers found so = (
-  both.0.0,
-  both.1.0,
-  subst (IsFoundAt layers first) found.4.0 found.2,
-  subst (IsFoundAt layers second) found.4.1 found.3,
-  so,
-)
+both-found IsSo first second both answer layers ([], zipped, are) so = absurd zipped
+both-found IsSo first second both answer layers (p ∷ [], zipped, are) so = absurd zipped.1
+both-found IsSo first second both answer layers (p ∷ q ∷ [], zipped, are) so =
+    (p ∷ q ∷ [], zipped, rw (are.0, are.1) so)
+both-found IsSo first second both answer layers (p ∷ q ∷ r ∷ rest, zipped, are) so = absurd are
 
 pub all-found : {A : Type 0} (IsSo : List Layer → ℕ → List ℕ → A → Type 0) (ids : List (List ℕ))
     (all : Position × Vec Position Global) (answer : A) (layers : List Layer)
-    → IsFoundAmong AreFirstAndOthers ids layers (known_of_all all)
-    → IsSo layers all.0.0 (numbers_of all.1.items) answer → IsFoundAmong IsSo ids layers (known_of_all answer)
-all-found IsSo ids all answer layers found so = (
-  all.0.0,
-  numbers_of all.1.items,
-  subst (λ (others : List ℕ). AllZip (IsFoundAt layers) ids (all.0.0 ∷ others)) found.3.1
-      (subst (λ (p : ℕ). AllZip (IsFoundAt layers) ids (p ∷ found.1)) found.3.0 found.2),
-  so,
-)
+    → IsFoundAmong AreFirstAndOthers ids layers (Known all)
+    → IsSo layers all.0.0 (numbers_of all.1.items) answer → IsFoundAmong IsSo ids layers (Known answer)
+all-found IsSo ids all answer layers ([], zipped, are) so = absurd are
+all-found IsSo ids all answer layers (first ∷ others, zipped, are) so = (first ∷ others, zipped, rw (are.0, are.1) so)

@@ -1,5 +1,5 @@
 -- Parts of the files of a graph that is trusted, and what is read of its commits.
-use Rattle.std.specs.Prelude.{◌≡◌, ℕ, List, Option, Some, None, Vec}
+use Rattle.std.specs.Prelude.{◌≡◌, ℕ, List, [], ◌∷◌, Option, Some, None, Vec}
 use Rattle.std.specs.Global.{Global}
 use Rattle.std.specs.Option.{ForSome}
 use Rattle.graph_folder.specs.Tree.{Tree}
@@ -14,6 +14,8 @@ use Rattle.graph_parts.specs.Shown.{AreGraphParts, Shows}
 use Rattle.graph_parts.specs.Stored.{StoresAt}
 use Rattle.graph_parts.specs.declared.layer.StoredCommit.{StoredCommit}
 use Rattle.graph_parts.specs.declared.parts.GraphParts.{GraphParts}
+use Rattle.answers.specs.FoundOf.{IsFoundOf, OfOne}
+use Rattle.answers.specs.declared.answer.Answer.{Answer}
 use Rattle.graph_unchecked.specs.Unchecked.{IsAnswerAt, IsFoundAt}
 
 -- The parts of the files of a trusted graph: where the tree is known, of the graph that is opened at the path.
@@ -27,8 +29,10 @@ abbrev pub IsCommitFound : List ℕ → List Layer → Option (Position × Store
 IsCommitFound id layers (Some found) = IsFoundAt layers id found.0.0 × StoresAt layers found.0.0 found.1
 IsCommitFound id layers None = FoundIn layers id None
 
--- the ids of its parents, first parent first
-abbrev pub AreParentsFound : List ℕ → List Layer → Option (Vec (List ℕ) Global) → Type 0
-AreParentsFound id layers (Some ids) =
-    (p : ℕ) × IsFoundAt layers id p × (ids.items ≡ ids_at layers (parents_at (history_of layers) p))
-AreParentsFound id layers None = FoundIn layers id None
+-- these are the ids of the parents of a commit, first parent first
+abbrev pub AreIdsOfParents : List Layer → ℕ → Vec (List ℕ) Global → Type 0
+AreIdsOfParents layers p ids = ids.items ≡ ids_at layers (parents_at (history_of layers) p)
+
+-- what is found of the parents of the commit with an id
+abbrev pub AreParentsFound : List ℕ → List Layer → Answer (Vec (List ℕ) Global) → Type 0
+AreParentsFound id layers answer = IsFoundOf (FoundIn layers) (OfOne (AreIdsOfParents layers)) (id ∷ []) answer

@@ -1,8 +1,6 @@
 -- what is answered of commits of a graph that is not checked
-use Rattle.std.specs.Prelude.{◌≡◌, ℕ, ◌+◌, ◌*◌, ◌≤◌, List, ◌∷◌, All, Bool, IsTrue, IfSome, IfNone, Option, Some, None, Ok, Vec}
-use Rattle.std.specs.Prelude.{slice_get, take}
+use Rattle.std.specs.Prelude.{◌≡◌, ℕ, ◌*◌, ◌≤◌, List, [], ◌∷◌, All, Bool, IsTrue, IfSome, IfNone, Option, Some, Ok, Vec}
 use Rattle.std.specs.Global.{Global}
-use Rattle.std.specs.List.{AllZip}
 use Rattle.graph_walks.specs.Walks.{CountWalks, IsWalkBetween, Reaches}
 use Rattle.graph_folder.specs.Tree.{Tree}
 use Rattle.graph_format.specs.Layer.{Layer}
@@ -15,11 +13,9 @@ use Rattle.commit_search.specs.Positions.{numbers_of}
 use Rattle.graph_bases.specs.Bases.{IsCommonAncestor}
 use Rattle.graph_history.specs.GraphComparison.{IsComparisonOf}
 use Rattle.graph_parts.specs.PathOpening.{opened_at}
-use Rattle.graph_unchecked.specs.declared.among.Among.{Among}
-use Rattle.graph_unchecked.specs.declared.among.Among.TheVariants.{Missing, Known as known_of_all}
-use Rattle.graph_unchecked.specs.declared.among.IdComparison.{IdComparison}
-use Rattle.graph_unchecked.specs.declared.between.Between.{Between}
-use Rattle.graph_unchecked.specs.declared.between.Between.TheVariants.{FirstMissing, SecondMissing, Known}
+use Rattle.answers.specs.FoundOf.{IsFoundOf, OfFirst, OfTwo}
+use Rattle.answers.specs.declared.answer.Answer.{Answer}
+use Rattle.answers.specs.declared.comparison.IdComparison.{IdComparison}
 
 -- it is told whether the second commit leads to the first along parents: a yes is so in any graph, and a no where each
 -- generation number counts the commits of the longest walk
@@ -39,33 +35,26 @@ pub record IsWalkUnchecked (layers : List Layer) (first second : ℕ) (answer : 
 -- What the first commit and the others have in common, and the ids of the merge bases: in any graph each base is a common
 -- ancestor, and no commit is visited more than three times; where each generation number counts the commits of the longest walk,
 -- the bases, the numbers on one side alone and the visits are exact.
-pub record IsComparedUnchecked (layers : List Layer) (first : ℕ) (others : List ℕ) (answer : IdComparison) : Type 0 where
+pub record IsComparedUnchecked (layers : List Layer) (first : ℕ) (others : List ℕ)
+    (answer : IdComparison (Vec (List ℕ) Global)) : Type 0 where
   pub common : All (λ base. IsCommonAncestor (history_of layers) first others base.0) answer.comparison.bases.positions.items
   pub visits : answer.comparison.bases.visits ≤ 3 * total layers
   pub exact : CountWalks (history_of layers) → IsComparisonOf layers first others answer.comparison
   pub ids : answer.base_ids.items ≡ ids_at layers (numbers_of answer.comparison.bases.positions.items)
 
 -- what is found of the commits with two ids: which of them a lookup does not find, or what is so of the commits that it finds
-abbrev pub IsFoundBetween : {A : Type 0} → (List Layer → ℕ → ℕ → A → Type 0) → List ℕ → List ℕ → List Layer → Between A → Type 0
-IsFoundBetween IsSo first second layers FirstMissing = FoundIn layers first None
-IsFoundBetween IsSo first second layers SecondMissing =
-    (p : ℕ) × FoundIn layers first (Some p) × FoundIn layers second None
-IsFoundBetween IsSo first second layers (Known answer) =
-    (p q : ℕ) × FoundIn layers first (Some p) × FoundIn layers second (Some q) × IsSo layers p q answer
+abbrev pub IsFoundBetween : {A : Type 0} → (List Layer → ℕ → ℕ → A → Type 0) → List ℕ → List ℕ → List Layer → Answer A → Type 0
+IsFoundBetween IsSo first second layers answer =
+    IsFoundOf (FoundIn layers) (OfTwo (IsSo layers)) (first ∷ second ∷ []) answer
 
 -- a lookup finds an id at this position
 abbrev pub IsFoundAt : List Layer → List ℕ → ℕ → Type 0
 IsFoundAt layers id p = FoundIn layers id (Some p)
 
--- what is found of the commits with some ids: the first of them that a lookup does not find, by its number, which is 1 for the
--- first id; or what is so of the commits that it finds
-abbrev pub IsFoundAmong : {A : Type 0} → (List Layer → ℕ → List ℕ → A → Type 0) → List (List ℕ) → List Layer → Among A → Type 0
-IsFoundAmong IsSo ids layers (Missing number) =
-    (place : ℕ) × (number ≡ place + 1)
-    × All (λ id. (p : ℕ) × IsFoundAt layers id p) (take place ids)
-    × ((id : List ℕ) × (slice_get ids place ≡ Some id) × FoundIn layers id None)
-IsFoundAmong IsSo ids layers (known_of_all answer) =
-    (first : ℕ) × (others : List ℕ) × AllZip (IsFoundAt layers) ids (first ∷ others) × IsSo layers first others answer
+-- what is found of the commits with some ids: the first of them that a lookup does not find, or what is so of the commits that it
+-- finds
+abbrev pub IsFoundAmong : {A : Type 0} → (List Layer → ℕ → List ℕ → A → Type 0) → List (List ℕ) → List Layer → Answer A → Type 0
+IsFoundAmong IsSo ids layers answer = IsFoundOf (FoundIn layers) (OfFirst (IsSo layers)) ids answer
 
 -- The answer is so of the graph that is opened at the path.
 pub record IsAnswerAt {A : Type 0} (tree : Tree) (path : List ℕ) (IsSo : List Layer → A → Type 0) (answer : A) : Type 0 where

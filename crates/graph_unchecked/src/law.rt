@@ -2,6 +2,8 @@
 
 ghost use Rattle.std.specs.Prelude.{◌≡◌, ℕ, Bool, List, Ok, Option, Vec};
 ghost use Rattle.std.specs.Global.{Global};
+ghost use Rattle.answers.specs.declared.answer.Answer.{Answer};
+ghost use Rattle.answers.specs.declared.comparison.IdComparison.{IdComparison};
 ghost use Rattle.graph_folder.specs.Tree.{Tree};
 ghost use Rattle.graph_format.specs.Layer.{Layer};
 ghost use Rattle.gix_commitgraph.specs.Sound.{Sound};
@@ -12,9 +14,6 @@ ghost use Rattle.graph_unchecked.specs.RightAnswers.{IsToldExactly};
 ghost use Rattle.graph_unchecked.specs.Unchecked.{IsAnswerAt, IsComparedUnchecked, IsFoundAmong};
 ghost use Rattle.graph_unchecked.specs.Unchecked.{IsFoundBetween, IsToldUnchecked};
 ghost use Rattle.graph_unchecked.specs.Unchecked.{IsWalkUnchecked};
-ghost use Rattle.graph_unchecked.specs.declared.among.Among.{Among};
-ghost use Rattle.graph_unchecked.specs.declared.among.IdComparison.{IdComparison};
-ghost use Rattle.graph_unchecked.specs.declared.between.Between.{Between};
 
 use gix_commitgraph::law::sound::a_lookup_in_a_right_graph_is_a_scan;
 
@@ -22,16 +21,17 @@ use gix_commitgraph::law::sound::a_lookup_in_a_right_graph_is_a_scan;
 /// in the checked graph.
 pub fn answers_about_a_right_graph_are_exact()
     ensures told { (tree : Tree) (path first second : List ℕ) (layers : List Layer)
-        (answer : Between Bool) → opened_at tree path ≡ Ok layers → Sound layers
+        (answer : Answer Bool) → opened_at tree path ≡ Ok layers → Sound layers
         → IsAnswerAt tree path (IsFoundBetween IsToldUnchecked first second) answer
         → IsScannedBetween IsToldExactly first second layers answer }
     ensures walk { (tree : Tree) (path first second : List ℕ) (layers : List Layer)
-        (answer : Between (Option (Vec (List ℕ) Global)))
+        (answer : Answer (Option (Vec (List ℕ) Global)))
         → opened_at tree path ≡ Ok layers → Sound layers
         → IsAnswerAt tree path (IsFoundBetween IsWalkUnchecked first second) answer
         → IsScannedBetween IsShortestWalkOfIds first second layers answer }
     ensures compared { (tree : Tree) (path : List ℕ) (ids : List (List ℕ)) (layers : List Layer)
-        (answer : Among IdComparison) → opened_at tree path ≡ Ok layers → Sound layers
+        (answer : Answer (IdComparison (Vec (List ℕ) Global)))
+        → opened_at tree path ≡ Ok layers → Sound layers
         → IsAnswerAt tree path (IsFoundAmong IsComparedUnchecked ids) answer
         → IsScannedAmong IsIdComparisonOf ids layers answer }
 {

@@ -11,9 +11,8 @@ ghost use Rattle.graph_unchecked.specs.PartLookups.{AreOthersWithin};
 ghost use Rattle.graph_unchecked.specs.Unchecked.{IsFoundAmong, IsFoundBetween};
 ghost use Rattle.graph_unchecked.specs.Unread.{failures_after_reads};
 
-use crate::among::Among;
-use crate::between::Between;
 use crate::unread::Unread;
+use answers::Answer;
 use gix_commitgraph::Position;
 use gix_hash_core::{ObjectId, oid};
 use graph_folder::folder::Folder;
@@ -27,7 +26,7 @@ pub(crate) fn find_both<T: Folder>(
     parts: &mut GraphParts,
     first: oid<'_>,
     second: oid<'_>,
-) -> Result<Between<(Position, Position)>, Unread>
+) -> Result<Answer<(Position, Position)>, Unread>
     requires parts { AreGraphParts parts.old }
     ensures parts { AreGraphParts parts.new }
     ensures sees { SeesMore (T.tree folder.old) parts.old parts.new }
@@ -40,12 +39,12 @@ pub(crate) fn find_both<T: Folder>(
         ≡ failures_after_reads result (T.failure_count folder.old) }
 {
     let Some(first) = find(alloc, folder, parts, first)? else {
-        return Ok(Between::FirstMissing);
+        return Ok(Answer::Unknown(1));
     };
     let Some(second) = find(alloc, folder, parts, second)? else {
-        return Ok(Between::SecondMissing);
+        return Ok(Answer::Unknown(2));
     };
-    Ok(Between::Known((first, second)))
+    Ok(Answer::Known((first, second)))
 }
 
 /// The positions of an id and of some others.
@@ -55,7 +54,7 @@ pub(crate) fn find_all<T: Folder>(
     parts: &mut GraphParts,
     first: oid<'_>,
     others: &[ObjectId],
-) -> Result<Among<(Position, Vec<Position>)>, Unread>
+) -> Result<Answer<(Position, Vec<Position>)>, Unread>
     requires parts { AreGraphParts parts.old }
     ensures parts { AreGraphParts parts.new }
     ensures sees { SeesMore (T.tree folder.old) parts.old parts.new }
@@ -68,12 +67,12 @@ pub(crate) fn find_all<T: Folder>(
         ≡ failures_after_reads result (T.failure_count folder.old) }
 {
     let Some(first) = find(alloc, folder, parts, first)? else {
-        return Ok(Among::Missing(1));
+        return Ok(Answer::Unknown(1));
     };
     let found = find_others(alloc, folder, parts, others)?;
     match found {
-        Among::Missing(number) => Ok(Among::Missing(number)),
-        Among::Known(others) => Ok(Among::Known((first, others))),
+        Answer::Unknown(number) => Ok(Answer::Unknown(number)),
+        Answer::Known(others) => Ok(Answer::Known((first, others))),
     }
 }
 
@@ -83,7 +82,7 @@ fn find_others<T: Folder>(
     folder: &mut T,
     parts: &mut GraphParts,
     others: &[ObjectId],
-) -> Result<Among<Vec<Position>>, Unread>
+) -> Result<Answer<Vec<Position>>, Unread>
     requires { AreGraphParts parts.old }
     ensures parts { AreGraphParts parts.new }
     ensures sees { SeesMore (T.tree folder.old) parts.old parts.new }
@@ -98,11 +97,11 @@ fn find_others<T: Folder>(
     let mut found = Vec::new(alloc);
     for (place, id) in others.iter().enumerate() {
         let Some(pos) = find(alloc, folder, parts, id.as_oid())? else {
-            return Ok(Among::Missing(place as u64 + 2));
+            return Ok(Answer::Unknown(place as u64 + 2));
         };
         found.push(pos).map_err(|_| Unread::OutOfMemory)?;
     }
-    Ok(Among::Known(found))
+    Ok(Answer::Known(found))
 }
 
 /// The position of an id.

@@ -17,6 +17,7 @@ use crate::fields::words_in;
 use crate::ids::read_ids;
 use crate::lookup::find;
 use crate::unread::Unread;
+use answers::Answer;
 use commit_search::edges::parent_of;
 use gix_commitgraph::Position;
 use gix_commitgraph::file::commit::{ExtraEdge, ParentEdge};
@@ -62,7 +63,7 @@ pub(crate) fn found_parents<T: Folder>(
     folder: &mut T,
     parts: &mut GraphParts,
     id: oid<'_>,
-) -> Result<Option<Vec<ObjectId>>, Unread>
+) -> Result<Answer<Vec<ObjectId>>, Unread>
     requires parts { AreGraphParts parts.old }
     ensures parts { AreGraphParts parts.new }
     ensures sees { SeesMore (T.tree folder.old) parts.old parts.new }
@@ -74,11 +75,11 @@ pub(crate) fn found_parents<T: Folder>(
         ≡ failures_after_reads result (T.failure_count folder.old) }
 {
     let Some(pos) = find(alloc, folder, parts, id)? else {
-        return Ok(None);
+        return Ok(Answer::Unknown(1));
     };
     let parents = parents_of(alloc, folder, parts, pos)?;
     let ids = read_ids(alloc, folder, parts, &parents)?;
-    Ok(Some(ids))
+    Ok(Answer::Known(ids))
 }
 
 /// The positions of the parents of the commit at a position, first parent first.

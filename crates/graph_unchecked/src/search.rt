@@ -16,12 +16,11 @@ ghost use Rattle.graph_unchecked.specs.Unchecked.{IsFoundBetween, IsToldUnchecke
 ghost use Rattle.graph_unchecked.specs.Unchecked.{IsWalkUnchecked};
 ghost use Rattle.graph_unchecked.specs.Unread.{failures_after_reads};
 
-use crate::among::{Among, IdComparison};
-use crate::between::Between;
 use crate::ids::read_ids;
 use crate::lookup::{find_all, find_both};
 use crate::source::PartCommits;
 use crate::unread::Unread;
+use answers::{Answer, IdComparison};
 use commit_search::FewSearcher;
 use gix_commitgraph::Position;
 use gix_hash_core::{ObjectId, oid};
@@ -38,7 +37,7 @@ pub(crate) fn told_between<T: Folder>(
     parts: &mut GraphParts,
     first: oid<'_>,
     second: oid<'_>,
-) -> Result<Between<bool>, Unread>
+) -> Result<Answer<bool>, Unread>
     requires parts { AreGraphParts parts.old }
     requires of { AreOfTree (T.tree folder.old) parts.old }
     ensures reads { ReadsOn (T.tree folder.old) parts.old parts.new }
@@ -52,11 +51,10 @@ pub(crate) fn told_between<T: Folder>(
 {
     let found = find_both(alloc, folder, parts, first, second)?;
     match found {
-        Between::FirstMissing => Ok(Between::FirstMissing),
-        Between::SecondMissing => Ok(Between::SecondMissing),
-        Between::Known((first, second)) => {
+        Answer::Unknown(number) => Ok(Answer::Unknown(number)),
+        Answer::Known((first, second)) => {
             let told = told_of(searcher, alloc, folder, parts, first, second)?;
-            Ok(Between::Known(told))
+            Ok(Answer::Known(told))
         }
     }
 }
@@ -69,7 +67,7 @@ pub(crate) fn walk_between_ids<T: Folder>(
     parts: &mut GraphParts,
     first: oid<'_>,
     second: oid<'_>,
-) -> Result<Between<Option<Vec<ObjectId>>>, Unread>
+) -> Result<Answer<Option<Vec<ObjectId>>>, Unread>
     requires parts { AreGraphParts parts.old }
     requires of { AreOfTree (T.tree folder.old) parts.old }
     ensures reads { ReadsOn (T.tree folder.old) parts.old parts.new }
@@ -83,11 +81,10 @@ pub(crate) fn walk_between_ids<T: Folder>(
 {
     let found = find_both(alloc, folder, parts, first, second)?;
     match found {
-        Between::FirstMissing => Ok(Between::FirstMissing),
-        Between::SecondMissing => Ok(Between::SecondMissing),
-        Between::Known((first, second)) => {
+        Answer::Unknown(number) => Ok(Answer::Unknown(number)),
+        Answer::Known((first, second)) => {
             let walk = walk_ids(searcher, alloc, folder, parts, first, second)?;
-            Ok(Between::Known(walk))
+            Ok(Answer::Known(walk))
         }
     }
 }
@@ -101,7 +98,7 @@ pub(crate) fn compared_among<T: Folder>(
     parts: &mut GraphParts,
     first: oid<'_>,
     others: &[ObjectId],
-) -> Result<Among<IdComparison>, Unread>
+) -> Result<Answer<IdComparison<Vec<ObjectId>>>, Unread>
     requires parts { AreGraphParts parts.old }
     requires of { AreOfTree (T.tree folder.old) parts.old }
     ensures reads { ReadsOn (T.tree folder.old) parts.old parts.new }
@@ -115,10 +112,10 @@ pub(crate) fn compared_among<T: Folder>(
 {
     let found = find_all(alloc, folder, parts, first, others)?;
     match found {
-        Among::Missing(number) => Ok(Among::Missing(number)),
-        Among::Known((first, others)) => {
+        Answer::Unknown(number) => Ok(Answer::Unknown(number)),
+        Answer::Known((first, others)) => {
             let comparison = compared(comparer, alloc, folder, parts, first, &others)?;
-            Ok(Among::Known(comparison))
+            Ok(Answer::Known(comparison))
         }
     }
 }
@@ -229,7 +226,7 @@ fn compared<T: Folder>(
     parts: &mut GraphParts,
     first: Position,
     others: &[Position],
-) -> Result<IdComparison, Unread>
+) -> Result<IdComparison<Vec<ObjectId>>, Unread>
     requires parts { AreGraphParts parts.old }
     requires of { AreOfTree (T.tree folder.old) parts.old }
     requires first { first.0 < commits_of_parts parts.old }

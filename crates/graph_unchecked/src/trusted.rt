@@ -11,11 +11,10 @@ ghost use Rattle.graph_unchecked.specs.Unchecked.{IsFoundBetween, IsToldUnchecke
 ghost use Rattle.graph_unchecked.specs.Unchecked.{IsWalkUnchecked};
 ghost use Rattle.graph_unchecked.specs.Unread.{failures_after_reads};
 
-use crate::among::{Among, IdComparison};
-use crate::between::Between;
 use crate::record::{found_commit, found_parents};
 use crate::search::{compared_among, told_between, walk_between_ids};
 use crate::unread::Unread;
+use answers::{Answer, IdComparison};
 use commit_search::FewSearcher;
 use gix_commitgraph::Position;
 use gix_hash_core::{ObjectId, oid};
@@ -103,7 +102,7 @@ impl TrustedGraph {
         folder: &mut T,
         first: oid<'_>,
         second: oid<'_>,
-    ) -> Result<Between<bool>, Unread>
+    ) -> Result<Answer<bool>, Unread>
         requires { (path : List ℕ) × IsTrustedAt (T.tree folder.old) path self.old }
         ensures graph { (path : List ℕ) → IsTrustedAt (T.tree folder.old) path self.old
             → IsTrustedAt (T.tree folder.old) path self.new }
@@ -129,7 +128,7 @@ impl TrustedGraph {
         folder: &mut T,
         first: oid<'_>,
         second: oid<'_>,
-    ) -> Result<Between<Option<Vec<ObjectId>>>, Unread>
+    ) -> Result<Answer<Option<Vec<ObjectId>>>, Unread>
         requires { (path : List ℕ) × IsTrustedAt (T.tree folder.old) path self.old }
         ensures graph { (path : List ℕ) → IsTrustedAt (T.tree folder.old) path self.old
             → IsTrustedAt (T.tree folder.old) path self.new }
@@ -154,7 +153,7 @@ impl TrustedGraph {
         folder: &mut T,
         first: oid<'_>,
         others: &[ObjectId],
-    ) -> Result<Among<IdComparison>, Unread>
+    ) -> Result<Answer<IdComparison<Vec<ObjectId>>>, Unread>
         requires { (path : List ℕ) × IsTrustedAt (T.tree folder.old) path self.old }
         ensures graph { (path : List ℕ) → IsTrustedAt (T.tree folder.old) path self.old
             → IsTrustedAt (T.tree folder.old) path self.new }
@@ -198,7 +197,7 @@ impl TrustedGraph {
         &mut self,
         folder: &mut T,
         id: oid<'_>,
-    ) -> Result<Option<Vec<ObjectId>>, Unread>
+    ) -> Result<Answer<Vec<ObjectId>>, Unread>
         requires { (path : List ℕ) × IsTrustedAt (T.tree folder.old) path self.old }
         ensures graph { (path : List ℕ) → IsTrustedAt (T.tree folder.old) path self.old
             → IsTrustedAt (T.tree folder.old) path self.new }

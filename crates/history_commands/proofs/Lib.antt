@@ -1,3 +1,3 @@
 pub mod AskLemmas
-pub mod BasesLemmas
+pub mod IdLemmas
 pub mod WalkLemmas

@@ -1,5 +1,3 @@
-pub mod Question
-pub mod IsAncestor
-pub mod MergeBases
-pub mod Walk
+pub mod CheckedReplies
+pub mod AskedOnce
 pub mod Check

@@ -17,13 +17,13 @@ use Rattle.write_commands.specs.LayerAnswer.{written_text, written_status}
 use Rattle.write_commands.specs.WrittenCommits.{MayWriteLayer}
 use Rattle.write_commands.specs.MergedCommits.{MayMerge}
 use Rattle.history_commands.specs.Check.{MayFindInAll, check_text, check_status}
-use Rattle.history_commands.specs.IsAncestor.{IsTold, is_ancestor_text, is_ancestor_status}
-use Rattle.history_commands.specs.MergeBases.{MayCompare, merge_base_text, merge_base_ids_text, merge_base_status}
-use Rattle.history_commands.specs.Question.{MayAnswer}
-use Rattle.history_commands.specs.Walk.{IsWalkOfIds, walk_text, walk_status}
-use Rattle.unchecked_commands.specs.UncheckedAncestor.{MayTellUnchecked}
-use Rattle.unchecked_commands.specs.UncheckedBases.{MayCompareUnchecked, told_bases_text, told_bases_status, told_ids_text}
-use Rattle.unchecked_commands.specs.UncheckedWalk.{MayWalkUnchecked}
+use Rattle.history_commands.specs.AskedOnce.{MayAskOnce, MayReplyAt}
+use Rattle.unchecked_commands.specs.TrustedReplies.{MayReplyTrusted}
+use Rattle.answer_lines.specs.Replies.{response_text, response_status}
+use Rattle.answer_lines.specs.declared.reply.Form.{Form}
+use Rattle.answer_lines.specs.declared.reply.Form.TheVariants.{Whole, IdsAlone}
+use Rattle.question_lines.specs.declared.question.Name.{Name}
+use Rattle.question_lines.specs.declared.question.Name.TheVariants as named
 use Rattle.unchecked_questions.specs.Trusting.{MayAskTrusted, trusted_text, trusted_status}
 use Rattle.historytool.specs.declared.command.Command.TheVariants as command
 
@@ -71,37 +71,16 @@ AskHistorytool help version words asked =
 abbrev pub TellsOfItself : List ℕ → Option (List ℕ) → Option (List ℕ) → ℕ → Type 0
 TellsOfItself text old new status = Appends old new (text ⧺ newline) × (status ≡ 0)
 
--- an answer to a question about two commits, of which the texts of ids are given, or about one and some others: one that its
--- command may give, or where the graph is not checked, one that it may give then
-abbrev pub TellsOfAncestor : Bool → List ℕ → List ℕ → Type 0 → (ℕ → ℕ → Result (List Layer) OpenError → Type 0) → ℕ → ℕ
+-- an answer to the question of a name about the ids that texts spell: one that its command may give, or where the graph is not
+-- checked, one that it may give then
+abbrev pub TellsOf : Bool → Form → Name → List (List ℕ) → Type 0 → (ℕ → ℕ → Result (List Layer) OpenError → Type 0) → ℕ → ℕ
     → Option (List ℕ) → Option (List ℕ) → ℕ → Type 0
-TellsOfAncestor false first second IsLeftAlone MayOpen before after old new status =
-    WritesAnswer is_ancestor_text is_ancestor_status (MayAnswer IsTold first second IsLeftAlone (MayOpen before after))
+TellsOf false form name texts IsLeftAlone MayOpen before after old new status =
+    WritesAnswer (response_text form) response_status (MayAskOnce name texts IsLeftAlone (MayReplyAt (MayOpen before after)))
     old new status
-TellsOfAncestor true first second IsLeftAlone MayOpen before after old new status =
-    WritesAnswer is_ancestor_text is_ancestor_status (MayTellUnchecked first second IsLeftAlone MayOpen before after)
+TellsOf true form name texts IsLeftAlone MayOpen before after old new status =
+    WritesAnswer (response_text form) response_status (MayAskOnce name texts IsLeftAlone (MayReplyTrusted MayOpen before after))
     old new status
-
-abbrev pub TellsOfWalk : Bool → List ℕ → List ℕ → Type 0 → (ℕ → ℕ → Result (List Layer) OpenError → Type 0) → ℕ → ℕ
-    → Option (List ℕ) → Option (List ℕ) → ℕ → Type 0
-TellsOfWalk false first second IsLeftAlone MayOpen before after old new status =
-    WritesAnswer walk_text walk_status (MayAnswer IsWalkOfIds first second IsLeftAlone (MayOpen before after)) old new status
-TellsOfWalk true first second IsLeftAlone MayOpen before after old new status =
-    WritesAnswer walk_text walk_status (MayWalkUnchecked first second IsLeftAlone MayOpen before after) old new status
-
-abbrev pub TellsOfBases : Bool → List (List ℕ) → Type 0 → (ℕ → ℕ → Result (List Layer) OpenError → Type 0) → ℕ → ℕ
-    → Option (List ℕ) → Option (List ℕ) → ℕ → Type 0
-TellsOfBases false ids IsLeftAlone MayOpen before after old new status =
-    WritesAnswer merge_base_text merge_base_status (MayCompare ids IsLeftAlone (MayOpen before after)) old new status
-TellsOfBases true ids IsLeftAlone MayOpen before after old new status =
-    WritesAnswer told_bases_text told_bases_status (MayCompareUnchecked ids IsLeftAlone MayOpen before after) old new status
-
-abbrev pub TellsOfBaseIds : Bool → List (List ℕ) → Type 0 → (ℕ → ℕ → Result (List Layer) OpenError → Type 0) → ℕ → ℕ
-    → Option (List ℕ) → Option (List ℕ) → ℕ → Type 0
-TellsOfBaseIds false ids IsLeftAlone MayOpen before after old new status =
-    WritesAnswer merge_base_ids_text merge_base_status (MayCompare ids IsLeftAlone (MayOpen before after)) old new status
-TellsOfBaseIds true ids IsLeftAlone MayOpen before after old new status =
-    WritesAnswer told_ids_text told_bases_status (MayCompareUnchecked ids IsLeftAlone MayOpen before after) old new status
 
 -- an answer that the command may give is written, with its status: help and version leave the folder alone; each other command
 -- answers of what the opener may answer at its path, while the count of failures goes from `before` to `after`, where it has a
@@ -114,16 +93,16 @@ HistorytoolMayWrite (command.Help text) input unread IsLeftAlone MayOpenAt befor
 HistorytoolMayWrite (command.Version text) input unread IsLeftAlone MayOpenAt before after old new status =
     IsLeftAlone × TellsOfItself text.now old new status
 HistorytoolMayWrite (command.IsAncestor pair) input unread IsLeftAlone MayOpenAt before after old new status =
-    TellsOfAncestor pair.unchecked pair.first.now pair.second.now IsLeftAlone
+    TellsOf pair.unchecked Whole named.IsAncestor (pair.first.now ∷ pair.second.now ∷ []) IsLeftAlone
     (MayOpenAt pair.path.now) before after old new status
 HistorytoolMayWrite (command.Walk pair) input unread IsLeftAlone MayOpenAt before after old new status =
-    TellsOfWalk pair.unchecked pair.first.now pair.second.now IsLeftAlone
+    TellsOf pair.unchecked Whole named.Walk (pair.first.now ∷ pair.second.now ∷ []) IsLeftAlone
     (MayOpenAt pair.path.now) before after old new status
 HistorytoolMayWrite (command.MergeBase group) input unread IsLeftAlone MayOpenAt before after old new status =
-    TellsOfBases group.unchecked (group.first.now ∷ map string_bytes group.others.now) IsLeftAlone
+    TellsOf group.unchecked Whole named.MergeBase (group.first.now ∷ map string_bytes group.others.now) IsLeftAlone
     (MayOpenAt group.path.now) before after old new status
 HistorytoolMayWrite (command.MergeBaseIds group) input unread IsLeftAlone MayOpenAt before after old new status =
-    TellsOfBaseIds group.unchecked (group.first.now ∷ map string_bytes group.others.now) IsLeftAlone
+    TellsOf group.unchecked IdsAlone named.MergeBase (group.first.now ∷ map string_bytes group.others.now) IsLeftAlone
     (MayOpenAt group.path.now) before after old new status
 HistorytoolMayWrite (command.Check path) input unread IsLeftAlone MayOpenAt before after old new status =
     WritesAnswer check_text check_status (MayFindInAll (MayOpenAt path.now before after)) old new status

@@ -4,8 +4,9 @@ ghost use Rattle.std.specs.Prelude.{◌≡◌, ◌≢◌, ◌∷◌, [], ℕ, Li
 ghost use Rattle.std.specs.Prelude.{codes, map, string_bytes};
 ghost use Rattle.historytool.specs.HistorytoolCommands.{AreQuestionWords, AskAfterName};
 ghost use Rattle.historytool.specs.HistorytoolCommands.{AskHistorytool, TellsOfItself};
-ghost use Rattle.historytool.specs.HistorytoolCommands.{TellsOfAncestor, TellsOfWalk};
-ghost use Rattle.historytool.specs.HistorytoolCommands.{TellsOfBases, TellsOfBaseIds};
+ghost use Rattle.historytool.specs.HistorytoolCommands.{TellsOf};
+ghost use Rattle.answer_lines.specs.declared.reply.Form.TheVariants.{Whole, IdsAlone};
+ghost use Rattle.question_lines.specs.declared.question.Name.TheVariants as named;
 ghost use Rattle.graph_commands.specs.OpenerAnswer.{MayOpen};
 ghost use Rattle.object_commands.specs.AskedRange.{SpellsRange};
 ghost use Rattle.object_commands.specs.declared.range.PositionRange as declared;
@@ -23,9 +24,10 @@ use question_commands::asking::run_ask;
 use show_commands::run::run_show;
 use std::alloc::Global;
 use std::io::{Read, Write};
-use unchecked_commands::ancestor::run_is_ancestor_unchecked;
-use unchecked_commands::bases::{run_merge_base_ids_unchecked, run_merge_base_unchecked};
-use unchecked_commands::walk::run_walk_unchecked;
+use unchecked_commands::run::{
+    run_is_ancestor_unchecked, run_merge_base_ids_unchecked, run_merge_base_unchecked,
+    run_walk_unchecked,
+};
 use unchecked_questions::trusting::run_ask_unchecked;
 use write_commands::{run_merge, run_write};
 
@@ -82,7 +84,7 @@ pub enum Command<'a> {
         /// The path of the graph.
         path: &'a str,
     },
-    /// The ids of the graph are to be listed.
+    /// The ids of the graph are to be listed_reply.
     Ids {
         /// The path of the graph.
         path: &'a str,
@@ -392,8 +394,8 @@ impl Pair<'_> {
         folder: &mut T,
         output: &mut W,
     ) -> Result<u8, WriteFailed>
-        ensures written { IfOk result (TellsOfAncestor self.entry.unchecked
-            self.entry.first.now self.entry.second.now (folder.new ≡ folder.old)
+        ensures written { IfOk result (TellsOf self.entry.unchecked Whole named.IsAncestor
+            (self.entry.first.now ∷ self.entry.second.now ∷ []) (folder.new ≡ folder.old)
             (MayOpen (T.tree folder.old) self.entry.path.now)
             (T.failure_count folder.old) (T.failure_count folder.new)
             (W.contents output.old) (W.contents output.new)) }
@@ -419,8 +421,8 @@ impl Pair<'_> {
         folder: &mut T,
         output: &mut W,
     ) -> Result<u8, WriteFailed>
-        ensures written { IfOk result (TellsOfWalk self.entry.unchecked
-            self.entry.first.now self.entry.second.now (folder.new ≡ folder.old)
+        ensures written { IfOk result (TellsOf self.entry.unchecked Whole named.Walk
+            (self.entry.first.now ∷ self.entry.second.now ∷ []) (folder.new ≡ folder.old)
             (MayOpen (T.tree folder.old) self.entry.path.now)
             (T.failure_count folder.old) (T.failure_count folder.new)
             (W.contents output.old) (W.contents output.new)) }
@@ -448,7 +450,7 @@ impl Group<'_> {
         folder: &mut T,
         output: &mut W,
     ) -> Result<u8, WriteFailed>
-        ensures written { IfOk result (TellsOfBases self.entry.unchecked
+        ensures written { IfOk result (TellsOf self.entry.unchecked Whole named.MergeBase
             (self.entry.first.now ∷ map string_bytes self.entry.others.now)
             (folder.new ≡ folder.old)
             (MayOpen (T.tree folder.old) self.entry.path.now)
@@ -477,7 +479,7 @@ impl Group<'_> {
         folder: &mut T,
         output: &mut W,
     ) -> Result<u8, WriteFailed>
-        ensures written { IfOk result (TellsOfBaseIds self.entry.unchecked
+        ensures written { IfOk result (TellsOf self.entry.unchecked IdsAlone named.MergeBase
             (self.entry.first.now ∷ map string_bytes self.entry.others.now)
             (folder.new ≡ folder.old)
             (MayOpen (T.tree folder.old) self.entry.path.now)

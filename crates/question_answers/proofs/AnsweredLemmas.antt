@@ -1,57 +1,132 @@
--- From one answer over a graph to all of them.
-use Rattle.std.proofs.Common.{◌≡◌, ℕ, List, [], ◌∷◌, ◌++◌, Option, map, sym, ap, subst, ◌∙◌, append-nil}
-use Rattle.std.specs.Io.KnownBytes.{Appends}
+-- From one answer to all of them.
+use Rattle.std.proofs.Common.{◌≡◌, ◌≢◌, ℕ, List, [], ◌∷◌, ◌++◌, Option, Some, None, map, refl, sym, ap, subst, ◌∙◌, append-nil}
+use Rattle.std.proofs.Common.{inl, inr, arith}
+use Rattle.std.specs.Io.KnownBytes.{Appends, prepend_known}
 use Rattle.std.proofs.KnownBytes.{Appends-nil, Appends-trans}
-use Rattle.std.specs.List.{AllByRecursion, flat_map}
+use Rattle.std.specs.List.{flat_map}
 use Rattle.std.proofs.lemmas.List.{map-append}
 use Rattle.std.proofs.lemmas.List.Concat.{flat_map-append}
 use Rattle.std.specs.Prelude.{Bool, true, Result, Ok, Err, IfOk, OnOk}
-use Rattle.graph_format.specs.Layer.{Layer}
+use Rattle.graph_folder.specs.declared.folder.ReadError.{ReadError}
+use Rattle.graph_folder.specs.declared.folder.ReadError.TheVariants.{NotOpened}
 use Rattle.graph_commands.specs.Buffer.{with_buffer}
 use Rattle.graph_commands.specs.Text.{newline}
-use Rattle.question_lines.specs.InputLines.{TakesLine}
-use Rattle.question_answers.specs.AnsweredLines.{AnswersOver, MayBeTold, Told, told_text}
-use Rattle.question_answers.specs.ReadLines.{HasRead}
+use Rattle.question_lines.specs.InputLines.{HasNoLine, IsKeptAs, TakesLine}
+use Rattle.question_lines.specs.Questions.{Asks}
+use Rattle.question_lines.specs.declared.question.Question.{Question}
+use Rattle.question_answers.specs.AnsweredLines.{AddsTold, AreAnswered, AreTold, MayBeTold, Told, told_text}
+use Rattle.question_answers.specs.ReadLines.{AreLinesOf, HasRead}
 use Rattle.question_answers.proofs.BufferLemmas.{with_nothing}
-use Rattle.question_answers.proofs.ReadLemmas.{reads_line, reads_more, reads_none}
-use Rattle.question_answers.proofs.ReplyLemmas.{told_kept}
+use Rattle.question_answers.proofs.ReadLemmas.{lines_ended, lines_failed, reads_line, reads_more, reads_none}
 
-pub all_append : {X : Type 0} (P : X → Type 0) (xs ys : List X) → AllByRecursion P xs → AllByRecursion P ys
-    → AllByRecursion P (xs ++ ys)
-all_append P [] ys first behind = behind
-all_append P (x ∷ xs) ys first behind = (first.0, all_append P xs ys first.1 behind)
+-- what is told for what is kept of a line is told for the line
+pub told_kept : (MayTell : ℕ → ℕ → Question → List ℕ → Type 0) (before after : ℕ) (line kept told : List ℕ)
+    → IsKeptAs line kept → MayBeTold MayTell before after kept told → MayBeTold MayTell before after line told
+told_kept MayTell before after line kept told (inl same) may =
+    subst (λ (l : List ℕ). MayBeTold MayTell before after l told) same may
+told_kept MayTell before after line kept told (inr long) (inl none) =
+    inl ((λ asked asks. let fits = asks.1 in absurd (omega (arith, long.0, fits))), none.1, none.2)
+told_kept MayTell before after line kept told (inr long) (inr (inl many)) =
+    let fits = many.0.2 in absurd (omega (arith, long.1, fits))
+told_kept MayTell before after line kept told (inr long) (inr (inr some)) =
+    let fits = some.1.1 in absurd (omega (arith, long.1, fits))
 
--- no line was answered over a graph yet
-pub over_none : (layers : List Layer) (input old : Option (List ℕ)) → AnswersOver layers input input old old
-over_none layers input old = ([], tt, reads_none input, Appends-nil old)
+-- the line of which this is kept asks the same
+pub asks_kept : (line kept : List ℕ) (asked : Question) → IsKeptAs line kept → Asks kept asked → Asks line asked
+asks_kept line kept asked (inl same) asks = subst (λ (l : List ℕ). Asks l asked) same asks
+asks_kept line kept asked (inr long) asks = let fits = asks.1 in absurd (omega (arith, long.1, fits))
 
--- one line more was
-pub over_more : (layers : List Layer) (input read left old written new : Option (List ℕ)) (kept told : List ℕ)
-    → AnswersOver layers input read old written → TakesLine read left kept → MayBeTold layers kept told
-    → Appends written new (told ++ newline) → AnswersOver layers input left old new
-over_more layers input read left old written new kept told before takes may added =
-    let turn : Told = record { line = takes.0; told = told } in
-    let line = λ (t : Told). t.line in (
-      before.0 ++ turn ∷ [],
-      all_append (λ (t : Told). MayBeTold layers t.line t.told) before.0 (turn ∷ []) before.1
-          (told_kept layers takes.0 kept told takes.2 may, tt),
-      subst (HasRead input left) (sym (map-append line before.0 (turn ∷ [])))
-          (reads_more input read left (map line before.0) (takes.0 ∷ []) before.2 (reads_line read left takes.0 takes.1)),
-      subst (Appends old new) (sym (flat_map-append told_text before.0 (turn ∷ [])))
-          (Appends-trans old written new (flat_map told_text before.0) (flat_map told_text (turn ∷ [])) before.3
-          (subst (Appends written new) (sym (append-nil (told_text turn))) added)),
-    )
-
--- an answer and an empty line were written, if they were
-pub finishes : {E : Type 0} (result : Result Bool E) (layers : List Layer) (line text buffer : List ℕ)
-    (old middle new : Option (List ℕ)) → MayBeTold layers line text → buffer ≡ [] → Appends (with_buffer old buffer) middle text
-    → OnOk result (Appends middle new newline)
-    → IfOk result (λ (told : Bool). told ≡ true
-    → (text : List ℕ) × MayBeTold layers line text × Appends old new (text ++ newline))
-finishes (Ok told) layers line text buffer old middle new may none added written = λ is.
-    let begun : Appends old middle text =
-    subst (λ (front : Option (List ℕ)). Appends front middle text)
+-- an answer and an empty line were written
+pub adds_told : (MayTell : List ℕ → Type 0) (told buffer : List ℕ) (old middle new : Option (List ℕ)) → MayTell told
+    → buffer ≡ [] → Appends (with_buffer old buffer) middle told → Appends middle new newline → AddsTold MayTell old new
+adds_told MayTell told buffer old middle new may none added written =
+    let begun : Appends old middle told =
+    subst (λ (front : Option (List ℕ)). Appends front middle told)
     (ap (λ (b : List ℕ). with_buffer old b) none ∙ with_nothing old)
     added in
-    (text, may, Appends-trans old middle new text newline begun written)
-finishes (Err failed) layers line text buffer old middle new may none added written = tt
+    (told, may, Appends-trans old middle new told newline begun written)
+
+-- the same, where that was told
+pub finishes : {E : Type 0} (result : Result Bool E) (MayTell : List ℕ → Type 0) (told buffer : List ℕ)
+    (old middle new : Option (List ℕ)) → MayTell told → buffer ≡ [] → Appends (with_buffer old buffer) middle told
+    → OnOk result (Appends middle new newline) → IfOk result (λ (is : Bool). is ≡ true → AddsTold MayTell old new)
+finishes (Ok is) MayTell told buffer old middle new may none added written =
+    λ yes. adds_told MayTell told buffer old middle new may none added written
+finishes (Err error) MayTell told buffer old middle new may none added written = tt
+
+module _ (MayTellLine : ℕ → ℕ → List ℕ → List ℕ → Type 0) where
+  -- some lines were told, and behind them others
+  told_behind : (first middle last : ℕ) (turns more : List Told) → AreTold MayTellLine first middle turns
+      → AreTold MayTellLine middle last more → AreTold MayTellLine first last (turns ++ more)
+  told_behind first middle last [] more are behind = subst (λ (n : ℕ). AreTold MayTellLine n last more) are behind
+  told_behind first middle last (turn ∷ turns) more are behind =
+      (are.0, are.1, told_behind are.0 middle last turns more are.2 behind)
+
+  pub answered_none : (failures : ℕ) (input old : Option (List ℕ))
+      → AreAnswered MayTellLine failures failures input input old old
+  answered_none failures input old = ([], refl, reads_none input, Appends-nil old)
+
+  pub answered_more : (first middle last : ℕ) (input read left old written new : Option (List ℕ))
+      → AreAnswered MayTellLine first middle input read old written
+      → AreAnswered MayTellLine middle last read left written new → AreAnswered MayTellLine first last input left old new
+  answered_more first middle last input read left old written new before behind =
+      let line = λ (turn : Told). turn.line in (
+        before.0 ++ behind.0,
+        told_behind first middle last before.0 behind.0 before.1 behind.1,
+        subst (HasRead input left) (sym (map-append line before.0 behind.0))
+            (reads_more input read left (map line before.0) (map line behind.0) before.2 behind.2),
+        subst (Appends old new) (sym (flat_map-append told_text before.0 behind.0))
+            (Appends-trans old written new (flat_map told_text before.0) (flat_map told_text behind.0) before.3 behind.3),
+      )
+
+  -- a line was told
+  pub answered_one : (before after : ℕ) (line : List ℕ) (read left old new : Option (List ℕ))
+      → HasRead read left (line ∷ []) → AddsTold (MayTellLine before after line) old new
+      → AreAnswered MayTellLine before after read left old new
+  answered_one before after line read left old new reads adds =
+      let turn : Told = record { line = line; told = adds.0 } in
+      (turn ∷ [], (after, adds.1, refl), reads, subst (Appends old new) (sym (append-nil (told_text turn))) adds.2)
+
+  -- all lines were answered, or those before a failure
+  abbrev pub AllAnswered : ℕ → ℕ → Option (List ℕ) → Option (List ℕ) → Option (List ℕ) → Option (List ℕ)
+      → Option ReadError → Type 0
+  AllAnswered first last input unread old new failed =
+      (turns : List Told) × AreTold MayTellLine first last turns
+      × AreLinesOf input unread (map (λ turn. turn.line) turns) failed × Appends old new (flat_map told_text turns)
+
+  pub answered_to_end : (first last : ℕ) (input left unread old new : Option (List ℕ)) (ahead : List ℕ)
+      → AreAnswered MayTellLine first last input left old new → HasNoLine left (prepend_known ahead unread)
+      → AllAnswered first last input unread old new None
+  answered_to_end first last input left unread old new ahead before none =
+      let asked = map (λ (turn : Told). turn.line) before.0 in
+      (before.0, before.1, lines_ended input left unread ahead asked before.2 none, before.3)
+
+  pub answered_to_failure : (first last : ℕ) (input left unread old new : Option (List ℕ)) (error : ReadError)
+      → AreAnswered MayTellLine first last input left old new → error ≢ NotOpened
+      → AllAnswered first last input unread old new (Some error)
+  answered_to_failure first last input left unread old new error before is =
+      let asked = map (λ (turn : Told). turn.line) before.0 in
+      (before.0, before.1, lines_failed input left unread asked error before.2 is, before.3)
+
+-- a line was answered of which this was kept
+pub answered_line : (MayTell : ℕ → ℕ → Question → List ℕ → Type 0) (before after : ℕ) (read left old new : Option (List ℕ))
+    (kept : List ℕ) → TakesLine read left kept → AddsTold (MayBeTold MayTell before after kept) old new
+    → AreAnswered (MayBeTold MayTell) before after read left old new
+answered_line MayTell before after read left old new kept takes adds =
+    answered_one (MayBeTold MayTell) before after takes.0 read left old new (reads_line read left takes.0 takes.1)
+    (adds.0, told_kept MayTell before after takes.0 kept adds.0 takes.2 adds.1, adds.2)
+
+-- what may be told by one may be told by another
+told_so : (MayTell MayTold : ℕ → ℕ → List ℕ → List ℕ → Type 0)
+    → ((before after : ℕ) (line told : List ℕ) → MayTell before after line told → MayTold before after line told)
+    → (first last : ℕ) (turns : List Told) → AreTold MayTell first last turns → AreTold MayTold first last turns
+told_so MayTell MayTold so first last [] are = are
+told_so MayTell MayTold so first last (turn ∷ turns) are =
+    (are.0, so first are.0 turn.line turn.told are.1, told_so MayTell MayTold so are.0 last turns are.2)
+
+pub answered_so : (MayTell MayTold : ℕ → ℕ → List ℕ → List ℕ → Type 0)
+    → ((before after : ℕ) (line told : List ℕ) → MayTell before after line told → MayTold before after line told)
+    → (first last : ℕ) (input left old new : Option (List ℕ)) → AreAnswered MayTell first last input left old new
+    → AreAnswered MayTold first last input left old new
+answered_so MayTell MayTold so first last input left old new are =
+    (are.0, told_so MayTell MayTold so first last are.0 are.1, are.2, are.3)

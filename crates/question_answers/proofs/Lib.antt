@@ -1,4 +1,3 @@
 pub mod ReadLemmas
-pub mod ReplyLemmas
 pub mod BufferLemmas
 pub mod AnsweredLemmas

@@ -1,4 +1,3 @@
 pub mod ReadLines
-pub mod Replies
 pub mod Taken
 pub mod AnsweredLines

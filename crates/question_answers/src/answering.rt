@@ -1,17 +1,15 @@
 //! Lines that are answered over one graph.
 
 ghost use Rattle.std.specs.Prelude.{◌≡◌, [], ℕ, List, Option, IfOk, OnOk, true, false};
-ghost use Rattle.std.specs.Io.KnownBytes.{Appends, prepend_known};
-ghost use Rattle.graph_commands.specs.Text.{◌⧺◌, newline};
+ghost use Rattle.std.specs.Io.KnownBytes.{prepend_known};
+ghost use Rattle.question_answers.specs.AnsweredLines.{AddsTold, AreAnswered, MayBeTold, StopsAt};
 ghost use Rattle.question_lines.specs.Questions.{Asks};
-ghost use Rattle.question_answers.specs.AnsweredLines.{AnswersOver, MayBeTold, StopsAt};
 
-use crate::telling::Teller;
+use crate::asker::Asker;
 use crate::turn::finish;
 use graph_commands::buffer::Buffer;
 use graph_commands::line::WriteFailed;
-use graph_folder::folder::ReadError;
-use graph_history::CheckedGraph;
+use graph_folder::folder::{Folder, ReadError};
 use question_lines::lines::LineReader;
 use question_lines::question::{Question, read_question};
 use std::alloc::Global;
@@ -28,26 +26,31 @@ pub enum Next {
     Reload,
 }
 
-/// Answers lines over a graph, until none is left, or one asks for the graph to be opened anew.
-/// Each answer ends with an empty line, and is flushed with it. `WriteFailed` comes where the
-/// writer fails.
-pub fn answer_over<R: Read, W: Write>(
+/// Answers lines by an asker, until none is left, or one asks for the graph to be opened anew. Each
+/// answer ends with an empty line, and is flushed with it. `WriteFailed` comes where the writer
+/// fails.
+pub fn answer_by<A: Asker, T: Folder, R: Read, W: Write>(
     alloc: Global,
-    graph: &CheckedGraph,
+    asker: &mut A,
+    folder: &mut T,
     lines: &mut LineReader,
     reader: &mut R,
     buffer: &mut Buffer,
     writer: &mut W,
 ) -> Result<Next, WriteFailed>
-    requires { buffer.old ≡ [] }
+    requires buffer { buffer.old ≡ [] }
+    requires of { A.is_of asker.old (T.tree folder.old) }
     ensures answered { IfOk result (λ next. (left : Option (List ℕ))
-        × AnswersOver graph.now.layers (prepend_known lines.old.ahead (R.remaining reader.old)) left
+        × AreAnswered (MayBeTold (A.may_tell (A.known asker.old) (T.tree folder.old)))
+        (T.failure_count folder.old) (T.failure_count folder.new)
+        (prepend_known lines.old.ahead (R.remaining reader.old)) left
         (W.contents writer.old) (W.contents writer.new)
         × StopsAt left (prepend_known lines.new.ahead (R.remaining reader.new)) next) }
     ensures buffer { OnOk result (buffer.new ≡ []) }
+    ensures known { A.known asker.new ≡ A.known asker.old }
+    ensures of { A.is_of asker.new (T.tree folder.old) }
+    ensures tree { T.tree folder.new ≡ T.tree folder.old }
 {
-    let graph = graph.as_checked();
-    let mut teller = Teller::new(alloc, &graph);
     for _ in 0..u64::MAX {
         let more = match lines.read(reader) {
             Ok(more) => more,
@@ -56,7 +59,7 @@ pub fn answer_over<R: Read, W: Write>(
         if !more {
             return Ok(Next::End);
         }
-        if !answer(alloc, &mut teller, lines.line(), buffer, writer)? {
+        if !answer_line(alloc, asker, folder, lines.line(), buffer, writer)? {
             return Ok(Next::Reload);
         }
     }
@@ -65,26 +68,31 @@ pub fn answer_over<R: Read, W: Write>(
 
 /// Answers a line, and returns `true`; or `false`, and nothing is written, where the line asks for
 /// the graph to be opened anew.
-fn answer<W: Write>(
+fn answer_line<A: Asker, T: Folder, W: Write>(
     alloc: Global,
-    teller: &mut Teller<'_, '_>,
+    asker: &mut A,
+    folder: &mut T,
     line: &[u8],
     buffer: &mut Buffer,
     writer: &mut W,
 ) -> Result<bool, WriteFailed>
-    requires { buffer.old ≡ [] }
-    ensures told { IfOk result (λ told. told ≡ true → (text : List ℕ)
-        × MayBeTold teller.old line.now text
-        × Appends (W.contents writer.old) (W.contents writer.new) (text ⧺ newline)) }
+    requires buffer { buffer.old ≡ [] }
+    requires of { A.is_of asker.old (T.tree folder.old) }
+    ensures told { IfOk result (λ told. told ≡ true → AddsTold
+        (MayBeTold (A.may_tell (A.known asker.old) (T.tree folder.old))
+        (T.failure_count folder.old) (T.failure_count folder.new) line.now)
+        (W.contents writer.old) (W.contents writer.new)) }
     ensures reload { IfOk result (λ told. told ≡ false → Asks line.now Question.Reload
-        × (writer.new ≡ writer.old)) }
+        × (writer.new ≡ writer.old) × (folder.new ≡ folder.old)) }
     ensures buffer { OnOk result (buffer.new ≡ []) }
-    ensures teller { teller.new ≡ teller.old }
+    ensures known { A.known asker.new ≡ A.known asker.old }
+    ensures of { A.is_of asker.new (T.tree folder.old) }
+    ensures tree { T.tree folder.new ≡ T.tree folder.old }
 {
     match read_question(alloc, line) {
         Ok(Some(Question::Reload)) => Ok(false),
         Ok(Some(question)) => {
-            teller.tell(&question, buffer, writer)?;
+            asker.answer(folder, &question, buffer, writer)?;
             finish(buffer, writer)
         }
         Ok(None) => {

@@ -15,17 +15,20 @@ use Rattle.graph_commands.specs.Text.{newline}
 use Rattle.question_lines.specs.InputLines.{HasNoLine}
 use Rattle.question_lines.specs.Questions.{Asks}
 use Rattle.question_lines.specs.declared.question.Question.TheVariants as question
-use Rattle.question_answers.specs.AnsweredLines.{AnswersOver, MayBeTold, Told, told_text}
+use Rattle.question_answers.specs.AnsweredLines.{AreAnswered, AreTold, MayBeTold, TellsStill, Told, told_text}
 use Rattle.question_answers.specs.ReadLines.{AreLinesOf, HasRead}
 use Rattle.question_answers.specs.Taken.{MayTake, Opener, end_text, end_status, taken_line}
-use Rattle.question_answers.proofs.AnsweredLemmas.{all_append}
 use Rattle.question_answers.proofs.ReadLemmas.{lines_ended, lines_failed, reads_more, reads_none}
-use Rattle.question_answers.proofs.ReplyLemmas.{asks_reload, tells_over}
 use Rattle.question_commands.specs.Asking.{AreTurns, MayAsk, MayTurn, Reloads, Session, State}
 use Rattle.question_commands.specs.Asking.{Turn, all_checked, commits_checked, session_text, turn_text}
 use Rattle.question_commands.specs.Ending.{EndsAsked}
 use Rattle.question_commands.specs.Proceeding.{Proceeds}
 use Rattle.question_commands.specs.declared.asking.Asked.{Asked}
+
+all_append : {X : Type 0} (P : X → Type 0) (xs ys : List X) → AllByRecursion P xs → AllByRecursion P ys
+    → AllByRecursion P (xs ++ ys)
+all_append P [] ys first behind = behind
+all_append P (x ∷ xs) ys first behind = (first.0, all_append P xs ys first.1 behind)
 
 module _ (MayOpen : Opener) where
   pub turns_none : (first : State) → AreTurns MayOpen first first []
@@ -107,13 +110,26 @@ module _ (MayOpen : Opener) (standing : State) where
   abbrev turn_of : Told → Turn
   turn_of one = record { line = one.line; before = standing; told = one.told; after = standing; checked = 0 }
 
-  are_turns : (told : List Told) → AllByRecursion (λ (t : Told). MayBeTold standing.layers t.line t.told) told
-      → AreTurns MayOpen standing standing (map turn_of told)
-  are_turns [] all = turns_none MayOpen standing
-  are_turns (one ∷ told) all =
-      turns_more MayOpen standing standing standing (turn_of one ∷ []) (map turn_of told)
-      (one_turn MayOpen (turn_of one) (inl (tells_over standing.layers one.line one.told all.0, refl, refl)))
-      (are_turns told all.1)
+  abbrev TellsHere : ℕ → ℕ → List ℕ → List ℕ → Type 0
+  TellsHere = MayBeTold (TellsStill standing.layers)
+
+  -- nothing is read for a line
+  still : (before after : ℕ) (line told : List ℕ) → TellsHere before after line told → after ≡ before
+  still before after line told (inl none) = none.2
+  still before after line told (inr (inl many)) = many.2
+  still before after line told (inr (inr some)) = some.3.1
+
+  are_turns : (last : ℕ) (told : List Told) → AreTold TellsHere standing.failures last told
+      → (last ≡ standing.failures) × AreTurns MayOpen standing standing (map turn_of told)
+  are_turns last [] all = (all, turns_none MayOpen standing)
+  are_turns last (one ∷ told) all =
+      let same = still standing.failures all.0 one.line one.told all.1 in
+      let may = subst (λ (n : ℕ). TellsHere standing.failures n one.line one.told) same all.1 in
+      let rest = are_turns last told (subst (λ (n : ℕ). AreTold TellsHere n last told) same all.2) in (
+        rest.0,
+        turns_more MayOpen standing standing standing (turn_of one ∷ []) (map turn_of told)
+            (one_turn MayOpen (turn_of one) (inl (may, refl, refl))) rest.1,
+      )
 
   same_lines : (told : List Told) → map (λ (t : Turn). t.line) (map turn_of told) ≡ map (λ (t : Told). t.line) told
   same_lines [] = refl
@@ -130,15 +146,20 @@ module _ (MayOpen : Opener) (standing : State) where
       sum_by-cons (λ (t : Turn). t.checked) (turn_of one) (map turn_of told) in
       omega (arith, none_checked told, all)
 
-  pub proceeds_over : (input left old new : Option (List ℕ)) → AnswersOver standing.layers input left old new
-      → Proceeds MayOpen standing standing input left old new 0
-  proceeds_over input left old new over = (
-    map turn_of over.0,
-    are_turns over.0 over.1,
-    subst (HasRead input left) (sym (same_lines over.0)) over.2,
-    subst (Appends old new) (sym (same_text over.0)) over.3,
-    none_checked over.0,
-  )
+  pub proceeds_over : (last : ℕ) (input left old new : Option (List ℕ))
+      → AreAnswered TellsHere standing.failures last input left old new
+      → (last ≡ standing.failures) × Proceeds MayOpen standing standing input left old new 0
+  proceeds_over last input left old new over =
+      let turns = are_turns last over.0 over.1 in (
+        turns.0,
+        (
+          map turn_of over.0,
+          turns.1,
+          subst (HasRead input left) (sym (same_lines over.0)) over.2,
+          subst (Appends old new) (sym (same_text over.0)) over.3,
+          none_checked over.0,
+        ),
+      )
 
 -- a line was read that asks for the graph to be opened anew, and it was
 pub reloads_line : (MayOpen : Opener) (before after : State) (line told : List ℕ) (checked : ℕ)
@@ -147,7 +168,7 @@ pub reloads_line : (MayOpen : Opener) (before after : State) (line told : List �
     → Proceeds MayOpen before after read left old new checked
 reloads_line MayOpen before after line told checked read left old new reads asks reloads written =
     let turn : Turn = record { line = line; before = before; told = told; after = after; checked = checked } in
-    proceeds_turn MayOpen turn read left old new (inr (asks_reload line asks, reloads)) reads written
+    proceeds_turn MayOpen turn read left old new (inr (asks, reloads)) reads written
 
 -- the text of a session was written, and why it ended
 pub asks : (MayOpen : Opener) (before opened after : ℕ) (input unread a b c d : Option (List ℕ)) (layers : List Layer)

@@ -9,10 +9,11 @@ use Rattle.graph_commands.specs.Text.{◌⧺◌, newline}
 use Rattle.graph_commands.specs.declared.refusal.Refusal.{Refusal}
 use Rattle.graph_history.specs.Reload.{StandAboveShared}
 use Rattle.history_commands.specs.Check.{MayRefuseToStart}
+use Rattle.question_answers.specs.AnsweredLines.{MayBeTold, TellsStill}
 use Rattle.question_answers.specs.ReadLines.{AreLinesOf}
-use Rattle.question_answers.specs.Replies.{HasWords, MayTellFor}
 use Rattle.question_answers.specs.Taken.{MayTake, Opener, end_status, end_text, taken_line}
-use Rattle.question_lines.specs.declared.question.Name.TheVariants.{Reload}
+use Rattle.question_lines.specs.Questions.{Asks}
+use Rattle.question_lines.specs.declared.question.Question.TheVariants as question
 
 -- The state between two lines: the graph that answers, and how many reads of the folder's device have failed.
 pub record State : Type 0 where
@@ -48,8 +49,9 @@ Reloads MayOpen before told checked after =
 -- the line asks that the path is opened anew.
 abbrev pub MayTurn : Opener → Turn → Type 0
 MayTurn MayOpen turn =
-    (MayTellFor turn.before.layers turn.line turn.told × (turn.after ≡ turn.before) × (turn.checked ≡ 0))
-    ⊎ (HasWords turn.line Reload [] × Reloads MayOpen turn.before turn.told turn.checked turn.after)
+    (MayBeTold (TellsStill turn.before.layers) turn.before.failures turn.after.failures turn.line turn.told
+    × (turn.after ≡ turn.before) × (turn.checked ≡ 0))
+    ⊎ (Asks turn.line question.Reload × Reloads MayOpen turn.before turn.told turn.checked turn.after)
 
 -- Turns lead from one state to another: each of them may be so, and the state before it is the one after the turn before it.
 pub record AreTurns (MayOpen : Opener) (first last : State) (turns : List Turn) : Type 0 where

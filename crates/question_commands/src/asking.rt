@@ -1,11 +1,13 @@
 //! The command `ask`: many questions about the graph at a path, one a line.
 
-ghost use Rattle.std.specs.Prelude.{◌≡◌, [], ℕ, List, Ok, IfOk, OnOk, map};
-ghost use Rattle.std.specs.Io.KnownBytes.{Appends};
+ghost use Rattle.std.specs.Prelude.{◌≡◌, [], ℕ, List, Option, Ok, IfOk, OnOk, map};
+ghost use Rattle.std.specs.Io.KnownBytes.{Appends, prepend_known};
 ghost use Rattle.std.specs.List.{flat_map};
 ghost use Rattle.graph_commands.specs.OpenerAnswer.{MayOpen};
 ghost use Rattle.graph_commands.specs.Text.{◌⧺◌, newline};
 ghost use Rattle.graph_history.specs.RightGraph.{plain_options};
+ghost use Rattle.question_answers.specs.AnsweredLines.{AreAnswered, MayBeTold, StopsAt};
+ghost use Rattle.question_answers.specs.AnsweredLines.{TellsStill};
 ghost use Rattle.question_answers.specs.ReadLines.{AreLinesOf};
 ghost use Rattle.question_answers.specs.Taken.{end_text, end_status, taken_line};
 ghost use Rattle.question_commands.specs.Asking.{AreTurns, MayAsk, Reloads, State, Turn};
@@ -18,8 +20,9 @@ use graph_commands::line::WriteFailed;
 use graph_commands::run::refuse;
 use graph_folder::folder::{Folder, ReadError};
 use graph_history::CheckedGraph;
+use history_commands::asker::CheckedAsker;
 use history_commands::opening::open_checked;
-use question_answers::answering::{Next, answer_over};
+use question_answers::answering::{Next, answer_by};
 use question_answers::turn::{end, write_count, write_refused};
 use question_lines::lines::LineReader;
 use std::alloc::Global;
@@ -171,7 +174,7 @@ fn answer_lines<R: Read, T: Folder, W: Write>(
 {
     let (mut graph, mut checked) = (graph, 0u64);
     for _ in 0..u64::MAX {
-        let next = answer_over(alloc, &graph, lines, reader, buffer, writer)?;
+        let next = answer_over(alloc, &graph, folder, lines, reader, buffer, writer)?;
         match next {
             Next::End => {
                 return Ok(Ended {
@@ -195,6 +198,31 @@ fn answer_lines<R: Read, T: Folder, W: Write>(
         failed: Some(ReadError::Device),
         checked,
     })
+}
+
+/// Answers lines over a graph, until none is left, or one asks for the graph to be opened anew.
+fn answer_over<R: Read, T: Folder, W: Write>(
+    alloc: Global,
+    graph: &CheckedGraph,
+    folder: &mut T,
+    lines: &mut LineReader,
+    reader: &mut R,
+    buffer: &mut Buffer,
+    writer: &mut W,
+) -> Result<Next, WriteFailed>
+    requires { buffer.old ≡ [] }
+    ensures answered { IfOk result (λ next. (left : Option (List ℕ))
+        × AreAnswered (MayBeTold (TellsStill graph.now.layers))
+        (T.failure_count folder.old) (T.failure_count folder.new)
+        (prepend_known lines.old.ahead (R.remaining reader.old)) left
+        (W.contents writer.old) (W.contents writer.new)
+        × StopsAt left (prepend_known lines.new.ahead (R.remaining reader.new)) next) }
+    ensures buffer { OnOk result (buffer.new ≡ []) }
+    ensures tree { T.tree folder.new ≡ T.tree folder.old }
+{
+    let checked = graph.as_checked();
+    let mut asker = CheckedAsker::new(alloc, &checked);
+    answer_by(alloc, &mut asker, folder, lines, reader, buffer, writer)
 }
 
 /// Opens the graph at the path anew, and tells that. The graph that stands then is the new one, or

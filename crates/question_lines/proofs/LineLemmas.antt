@@ -16,7 +16,7 @@ use Rattle.std.proofs.lemmas.List.Splits.{length-slice_split, slice_split_at, sl
 use Rattle.question_lines.specs.InputLines.{IsKeptAs, LeavesBehind, TakesLine, HasNoLine, most_kept_bytes}
 use Rattle.std.proofs.Math.Nat.{min_comm}
 use Rattle.std.proofs.Math.Seq.{drop-cons, take-append-add}
-use Rattle.question_lines.specs.Places.{HasNone, IsFirstPlace}
+use Rattle.question_lines.specs.BytePlaces.{HasNone, IsFirstPlace}
 
 parts_of_line : (text : List ℕ) (parts : List (List ℕ)) → 0 < length parts
     → lines_of_parts (text ∷ parts) ≡ strip_carriage_return text ∷ lines_of_parts parts

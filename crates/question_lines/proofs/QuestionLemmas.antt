@@ -17,7 +17,7 @@ use Rattle.gix_hash_core.specs.declared.object_id.IdError.{IdError}
 use Rattle.gix_hash_core.specs.declared.object_id.IdError.TheVariants.{Length, Digit}
 use Rattle.question_lines.specs.InputLines.{most_line_bytes}
 use Rattle.question_lines.specs.Questions.{AsksNothing, HasAllIds, name_text, question_ids, question_name, words_of}
-use Rattle.question_lines.specs.Places.{HasNone, IsFirstPlace}
+use Rattle.question_lines.specs.BytePlaces.{HasNone, IsFirstPlace}
 use Rattle.question_lines.specs.WordsLeft.{BeginWithId, BeginWithNoId, FitName}
 use Rattle.question_lines.specs.declared.question.Question.{Question}
 use Rattle.question_lines.specs.declared.question.Question.TheVariants as question

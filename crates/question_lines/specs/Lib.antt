@@ -1,4 +1,4 @@
-pub mod Places
+pub mod BytePlaces
 pub mod InputLines
 pub mod Questions
 pub mod WordsLeft

@@ -5,7 +5,7 @@ ghost use Rattle.std.specs.Prelude.{IfErr, IfOk, IsTrue, OnOk, List, ℕ};
 ghost use Rattle.std.specs.Io.KnownBytes.{IsAtEnd, Keeps, prepend_known};
 ghost use Rattle.std.specs.Str.Lines.{strip_carriage_return};
 ghost use Rattle.question_lines.specs.InputLines.{TakesLine, HasNoLine, most_kept_bytes};
-ghost use Rattle.question_lines.specs.Places.{HasNone};
+ghost use Rattle.question_lines.specs.BytePlaces.{HasNone};
 
 use crate::place::place_of;
 use graph_folder::folder::ReadError;

@@ -10,9 +10,9 @@ use graph_vectors::{DIAMOND, Row, Sink, file_of_rows};
 use std::alloc::Global;
 use std::io;
 use std::process::Abort;
-use unchecked_commands::ancestor::run_is_ancestor_unchecked;
-use unchecked_commands::bases::run_merge_base_ids_unchecked;
-use unchecked_commands::walk::run_walk_unchecked;
+use unchecked_commands::run::{
+    run_is_ancestor_unchecked, run_merge_base_ids_unchecked, run_walk_unchecked,
+};
 
 pub const ONES: &str = "1111111111111111111111111111111111111111";
 

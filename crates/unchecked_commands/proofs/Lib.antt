@@ -1,4 +1,2 @@
-pub mod AnswerLemmas
-pub mod BasesLemmas
 pub mod OnlyAnswerLemmas
-pub mod WalkLemmas
+pub mod PartReplyLemmas

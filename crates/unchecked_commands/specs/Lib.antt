@@ -1,5 +1,2 @@
 pub mod OnlyAnswer
-pub mod UncheckedAnswer
-pub mod UncheckedAncestor
-pub mod UncheckedWalk
-pub mod UncheckedBases
+pub mod TrustedReplies

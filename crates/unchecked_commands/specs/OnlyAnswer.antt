@@ -1,5 +1,5 @@
 -- what is answered of the graph at a path whose files are read by parts
-use Rattle.std.specs.Prelude.{◌≡◌, ℕ, List, Option, None, Result, Ok, Err, IsOkAnd}
+use Rattle.std.specs.Prelude.{◌≡◌, ℕ, List, Result, Ok, Err, IsOkAnd}
 use Rattle.graph_folder.specs.Failures.{one_more}
 use Rattle.graph_format.specs.Layer.{Layer}
 use Rattle.graph_layer.specs.OpenAnswer.{IsAsExpected}
@@ -7,8 +7,6 @@ use Rattle.graph_layer.specs.declared.opening.error.OpenError.{OpenError}
 use Rattle.graph_layer.specs.declared.opening.error.OpenError.TheVariants.{Device}
 use Rattle.graph_commands.specs.declared.refusal.Refusal.{Refusal}
 use Rattle.graph_commands.specs.declared.refusal.Refusal.TheVariants.{Open, Walk}
-use Rattle.graph_unchecked.specs.declared.unread.Unread.{Unread}
-use Rattle.graph_unchecked.specs.declared.unread.Unread.TheVariants as unread
 
 -- where no read fails and memory suffices, the opener may answer this alone: so it is where it is known what stands in the folder
 abbrev pub IsOnlyAnswer : (ℕ → ℕ → Result (List Layer) OpenError → Type 0) → Result (List Layer) OpenError → Type 0
@@ -24,10 +22,3 @@ IsReadByParts MayOpen before after IsSo (Ok answer) =
 IsReadByParts MayOpen before after IsSo (Err (Open Device)) = after ≡ one_more before
 IsReadByParts MayOpen before after IsSo (Err Walk) = after ≡ before
 IsReadByParts MayOpen before after IsSo (Err refusal) = ⊥
-
--- For private contracts: what is answered where nothing was read by parts; none where the graph is to be opened whole, and
--- checked
-abbrev pub answer_unread : {A : Type 0} → Unread → Result (Option A) Refusal
-answer_unread unread.Device = Err (Open Device)
-answer_unread unread.OutOfMemory = Err Walk
-answer_unread unread.NotByParts = Ok None

@@ -1,3 +1,2 @@
-pub mod PartReplyLemmas
 pub mod TrustingLemmas
 pub mod KeptLemmas

@@ -7,9 +7,9 @@ use Rattle.gix_commitgraph.specs.Sound.{Sound}
 use Rattle.graph_commands.specs.OpenerAnswer.{MayOpen}
 use Rattle.graph_commands.specs.declared.refusal.Refusal.{Refusal}
 use Rattle.graph_unchecked.specs.Trusted.{IsTrustedAt}
-use Rattle.unchecked_questions.specs.declared.trusting.Kept.{Kept}
-use Rattle.unchecked_questions.specs.declared.trusting.Kept.TheVariants as kept
-use Rattle.unchecked_questions.specs.declared.trusting.Opened.{Opened}
+use Rattle.unchecked_questions.specs.declared.asker.Kept.{Kept}
+use Rattle.unchecked_questions.specs.declared.asker.Kept.TheVariants as kept
+use Rattle.unchecked_questions.specs.declared.asker.Opened.{Opened}
 
 -- the opener may answer the graph of these layers in each call in which no read fails
 abbrev pub MayStay : Option Tree → List ℕ → List Layer → Type 0

@@ -1,4 +1,2 @@
 pub mod Trusting
-pub mod PartReplies
 pub mod KeptGraphs
-pub mod TrustedLines

@@ -19,22 +19,22 @@ returns-in_err-found-clause-sees g c =
     sees-then (g.T.Folder.tree c.args.folder.now) c.args.parts.now mid new c.find.ensures.sees
     (subst (λ (k : Option Tree). SeesMore k mid new) c.find.ensures.tree c.find_others.ensures.sees)
 
-pub returns-in-Missing-clause-sees : goal.returns-in-Missing-clause-sees
-returns-in-Missing-clause-sees g c =
+pub returns-in-Unknown-clause-sees : goal.returns-in-Unknown-clause-sees
+returns-in-Unknown-clause-sees g c =
     let mid = c.find.new.parts in
     let new = c.find_others.new.parts in
     sees-then (g.T.Folder.tree c.args.folder.now) c.args.parts.now mid new c.find.ensures.sees
     (subst (λ (k : Option Tree). SeesMore k mid new) c.find.ensures.tree c.find_others.ensures.sees)
 
-pub returns-in-Missing-clause-found : goal.returns-in-Missing-clause-found
-returns-in-Missing-clause-found g c = λ layers shows.
+pub returns-in-Unknown-clause-found : goal.returns-in-Unknown-clause-found
+returns-in-Unknown-clause-found g c = λ layers shows.
     let mid = c.find.new.parts in
     let new = c.find_others.new.parts in
     let first = c.find.ensures.tree in
     let more = subst (λ (k : Option Tree). SeesMore k mid new) first c.find_others.ensures.sees in
-    some-of-others layers (oid_bytes c.args.first) c.in-Some.first.0 c.args.others.now c.in-Missing.number
+    some-of-others layers (oid_bytes c.args.first) c.in-Some.first.0 c.args.others.now c.in-Unknown.number
     ((rw c.in-Some.is at c.in_ok-first.ensures.found) layers (more.kept layers shows))
-    ((rw c.in-Missing.is at c.in_ok-found.ensures.found) layers
+    ((rw c.in-Unknown.is at c.in_ok-found.ensures.found) layers
     (subst (λ (k : Option Tree). Shows k new layers) (sym first) shows))
 
 pub returns-in-Known-clause-sees : goal.returns-in-Known-clause-sees

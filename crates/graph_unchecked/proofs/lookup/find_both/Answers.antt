@@ -1,9 +1,19 @@
 -- What is found is so of the layers that are shown.
-use Rattle.std.proofs.Common.{◌<◌, Option, refl, sym, subst, arith}
+use Rattle.std.proofs.Common.{◌<◌, [], ◌∷◌, Option, refl, sym, subst, arith}
+use Rattle.gix_hash_core.specs.Oid.{oid_bytes}
+use Rattle.answers.specs.FoundOf.{OfTwo}
+use Rattle.answers.proofs.FoundLemmas.{first_missing, second_missing}
 use Rattle.graph_folder.specs.Tree.{Tree}
+use Rattle.gix_commitgraph.specs.GraphLookup.{FoundIn}
 use Rattle.graph_parts.specs.Shown.{SeesMore, Shows, commits_of_parts}
 use Rattle.graph_parts.proofs.GraphPartLemmas.{same-commits, sees-then}
+use Rattle.graph_unchecked.specs.PartLookups.{AreBoth}
 use Rattle.graph_unchecked.proofs.lookup.find_both.Goals as goal
+
+pub returns-in_default-clause-found : goal.returns-in_default-clause-found
+returns-in_default-clause-found g c = λ layers shows.
+    first_missing (FoundIn layers) (OfTwo (AreBoth layers)) (oid_bytes c.args.first) (oid_bytes c.args.second ∷ [])
+    ((rw c.in_default.is at c.in_ok-first.ensures.found) layers shows)
 
 pub returns-in_err-second-clause-sees : goal.returns-in_err-second-clause-sees
 returns-in_err-second-clause-sees g c =
@@ -24,12 +34,11 @@ returns-in_default-2-clause-found g c = λ layers shows.
     let mid = c.find.new.parts in
     let new = c.find-2.new.parts in
     let first = c.find.ensures.tree in
-    let more = subst (λ (k : Option Tree). SeesMore k mid new) first c.find-2.ensures.sees in (
-      c.in-Some.first.0,
-      (rw c.in-Some.is at c.in_ok-first.ensures.found) layers (more.kept layers shows),
-      (rw c.in_default-2.is at c.in_ok-second.ensures.found) layers
-          (subst (λ (k : Option Tree). Shows k new layers) (sym first) shows),
-    )
+    let more = subst (λ (k : Option Tree). SeesMore k mid new) first c.find-2.ensures.sees in
+    second_missing (FoundIn layers) (OfTwo (AreBoth layers)) (oid_bytes c.args.first) (oid_bytes c.args.second) []
+    c.in-Some.first.0 ((rw c.in-Some.is at c.in_ok-first.ensures.found) layers (more.kept layers shows))
+    ((rw c.in_default-2.is at c.in_ok-second.ensures.found) layers
+    (subst (λ (k : Option Tree). Shows k new layers) (sym first) shows))
 
 pub returns-clause-sees : goal.returns-clause-sees
 returns-clause-sees g c =
@@ -54,10 +63,14 @@ returns-clause-found g c = λ layers shows.
     let new = c.find-2.new.parts in
     let first = c.find.ensures.tree in
     let more = subst (λ (k : Option Tree). SeesMore k mid new) first c.find-2.ensures.sees in (
-      c.in-Some.first.0,
-      c.in-Some-2.second.0,
-      (rw c.in-Some.is at c.in_ok-first.ensures.found) layers (more.kept layers shows),
-      (rw c.in-Some-2.is at c.in_ok-second.ensures.found) layers
-          (subst (λ (k : Option Tree). Shows k new layers) (sym first) shows),
+      c.in-Some.first.0 ∷ c.in-Some-2.second.0 ∷ [],
+      (
+        (rw c.in-Some.is at c.in_ok-first.ensures.found) layers (more.kept layers shows),
+        (
+          (rw c.in-Some-2.is at c.in_ok-second.ensures.found) layers
+              (subst (λ (k : Option Tree). Shows k new layers) (sym first) shows),
+          tt,
+        ),
+      ),
       (refl, refl),
     )

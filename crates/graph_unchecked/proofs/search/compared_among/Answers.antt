@@ -22,14 +22,14 @@ returns-in_err-found-clause-reads g c =
     reads_on (g.T.Folder.tree c.args.folder.now) c.args.parts.now c.find_all.new.parts c.find_all.ensures.parts
     c.find_all.ensures.sees
 
-pub returns-in-Missing-clause-reads : goal.returns-in-Missing-clause-reads
-returns-in-Missing-clause-reads g c =
+pub returns-in-Unknown-clause-reads : goal.returns-in-Unknown-clause-reads
+returns-in-Unknown-clause-reads g c =
     reads_on (g.T.Folder.tree c.args.folder.now) c.args.parts.now c.find_all.new.parts c.find_all.ensures.parts
     c.find_all.ensures.sees
 
-pub returns-in-Missing-clause-told : goal.returns-in-Missing-clause-told
-returns-in-Missing-clause-told g c = λ tree is layers shows graph.
-    (rw c.in-Missing.is at c.in_ok-found.ensures.found) layers (c.find_all.ensures.sees.told tree is layers shows)
+pub returns-in-Unknown-clause-told : goal.returns-in-Unknown-clause-told
+returns-in-Unknown-clause-told g c = λ tree is layers shows graph.
+    (rw c.in-Unknown.is at c.in_ok-found.ensures.found) layers (c.find_all.ensures.sees.told tree is layers shows)
 
 pub returns-in_err-comparison-in-Known-clause-reads : goal.returns-in_err-comparison-in-Known-clause-reads
 returns-in_err-comparison-in-Known-clause-reads g c =

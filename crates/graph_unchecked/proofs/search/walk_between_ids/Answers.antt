@@ -22,23 +22,14 @@ returns-in_err-found-clause-reads g c =
     reads_on (g.T.Folder.tree c.args.folder.now) c.args.parts.now c.find_both.new.parts c.find_both.ensures.parts
     c.find_both.ensures.sees
 
-pub returns-in-FirstMissing-clause-reads : goal.returns-in-FirstMissing-clause-reads
-returns-in-FirstMissing-clause-reads g c =
+pub returns-in-Unknown-clause-reads : goal.returns-in-Unknown-clause-reads
+returns-in-Unknown-clause-reads g c =
     reads_on (g.T.Folder.tree c.args.folder.now) c.args.parts.now c.find_both.new.parts c.find_both.ensures.parts
     c.find_both.ensures.sees
 
-pub returns-in-FirstMissing-clause-told : goal.returns-in-FirstMissing-clause-told
-returns-in-FirstMissing-clause-told g c = λ tree is layers shows graph.
-    (rw c.in-FirstMissing.is at c.in_ok-found.ensures.found) layers (c.find_both.ensures.sees.told tree is layers shows)
-
-pub returns-in-SecondMissing-clause-reads : goal.returns-in-SecondMissing-clause-reads
-returns-in-SecondMissing-clause-reads g c =
-    reads_on (g.T.Folder.tree c.args.folder.now) c.args.parts.now c.find_both.new.parts c.find_both.ensures.parts
-    c.find_both.ensures.sees
-
-pub returns-in-SecondMissing-clause-told : goal.returns-in-SecondMissing-clause-told
-returns-in-SecondMissing-clause-told g c = λ tree is layers shows graph.
-    (rw c.in-SecondMissing.is at c.in_ok-found.ensures.found) layers (c.find_both.ensures.sees.told tree is layers shows)
+pub returns-in-Unknown-clause-told : goal.returns-in-Unknown-clause-told
+returns-in-Unknown-clause-told g c = λ tree is layers shows graph.
+    (rw c.in-Unknown.is at c.in_ok-found.ensures.found) layers (c.find_both.ensures.sees.told tree is layers shows)
 
 pub returns-in_err-walk-in-Known-clause-reads : goal.returns-in_err-walk-in-Known-clause-reads
 returns-in_err-walk-in-Known-clause-reads g c =

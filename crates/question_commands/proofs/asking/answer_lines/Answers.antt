@@ -37,13 +37,14 @@ returns-in-End-clause-answered g c =
     let opens : Opener = MayOpen tree c.args.path.now in
     let failures = g.T.Folder.failure_count c.loop.folder in
     let standing : State = record { layers = c.loop.graph.layers; failures = failures } in
+    let after = g.T.Folder.failure_count c.answer_over.new.folder in
     let over = c.in_ok-next.ensures.answered in
-    let turns = proceeds_over opens standing _ over.0 _ _ over.1 in
+    let turns = proceeds_over opens standing after _ over.0 _ _ over.1 in
     let end = rw c.in-End.is at over.2 in
     let before = c.loop.invariant.answered in
     answered_to_end opens _ standing _ over.0 _ _ _ (before.0 + 0) c.loop.checked
-    (proceeds_more opens _ standing standing _ _ over.0 _ _ _ before.0 0 before.1 turns) (omega (arith, before.2))
-    c.answer_over.new.lines.ahead failures refl end
+    (proceeds_more opens _ standing standing _ _ over.0 _ _ _ before.0 0 before.1 turns.1) (omega (arith, before.2))
+    c.answer_over.new.lines.ahead after (sym turns.0) end
 
 pub returns-in-Failed-clause-answered : goal.returns-in-Failed-clause-answered
 returns-in-Failed-clause-answered g c =
@@ -51,13 +52,14 @@ returns-in-Failed-clause-answered g c =
     let opens : Opener = MayOpen tree c.args.path.now in
     let failures = g.T.Folder.failure_count c.loop.folder in
     let standing : State = record { layers = c.loop.graph.layers; failures = failures } in
+    let after = g.T.Folder.failure_count c.answer_over.new.folder in
     let over = c.in_ok-next.ensures.answered in
-    let turns = proceeds_over opens standing _ over.0 _ _ over.1 in
+    let turns = proceeds_over opens standing after _ over.0 _ _ over.1 in
     let failed = rw c.in-Failed.is at over.2 in
     let before = c.loop.invariant.answered in
     answered_to_failure opens _ standing _ over.0 (g.R.Read.remaining c.answer_over.new.reader) _ _ (before.0 + 0) c.loop.checked
-    (proceeds_more opens _ standing standing _ _ over.0 _ _ _ before.0 0 before.1 turns) (omega (arith, before.2))
-    c.in-Failed.error failures refl failed
+    (proceeds_more opens _ standing standing _ _ over.0 _ _ _ before.0 0 before.1 turns.1) (omega (arith, before.2))
+    c.in-Failed.error after (sym turns.0) failed
 
 pub loop-preserved : goal.loop-preserved
 loop-preserved g c =
@@ -68,20 +70,21 @@ loop-preserved g c =
     let after : State =
     record { layers = c.reload.new.graph.layers; failures = g.T.Folder.failure_count c.reload.new.folder } in
     let over = c.in_ok-next.ensures.answered in
-    let turns = proceeds_over opens standing _ over.0 _ _ over.1 in
+    let turns = proceeds_over opens standing (g.T.Folder.failure_count c.answer_over.new.folder) _ over.0 _ _ over.1 in
     let asks = rw c.in-Reload.is at over.2 in
-    let told = rw c.loop.invariant.tree at c.in_ok-taken-in-Reload.ensures.told in
+    let same = c.answer_over.ensures.tree ∙ c.loop.invariant.tree in
+    let told = rw (same, turns.0) at c.in_ok-taken-in-Reload.ensures.told in
     let before = c.loop.invariant.answered in
     let checked = c.in_ok-taken-in-Reload.taken in
     record {
       answered = (
         before.0 + 0 + checked,
         proceeds_more opens _ standing after _ over.0 _ _ _ _ (before.0 + 0) checked
-            (proceeds_more opens _ standing standing _ _ over.0 _ _ _ before.0 0 before.1 turns)
+            (proceeds_more opens _ standing standing _ _ over.0 _ _ _ before.0 0 before.1 turns.1)
             (reloads_line opens standing after asks.0 told.0 checked over.0 _ _ _ asks.1 asks.2 told.1 told.2),
         omega (arith, before.2, c.saturating_add-checked.ensures),
       );
       options = c.reload.ensures.options;
       buffer = c.in_ok-next.ensures.buffer;
-      tree = c.reload.ensures.tree ∙ c.loop.invariant.tree;
+      tree = c.reload.ensures.tree ∙ same;
     }

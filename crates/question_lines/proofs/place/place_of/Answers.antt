@@ -1,7 +1,7 @@
 -- The byte is at this place, or at none.
 use Rattle.std.proofs.Common.{subst, List, ℕ}
 use Rattle.std.proofs.lemmas.List.{take_all}
-use Rattle.question_lines.specs.Places.{HasNone}
+use Rattle.question_lines.specs.BytePlaces.{HasNone}
 use Rattle.question_lines.proofs.LineLemmas.{none_more}
 use Rattle.question_lines.proofs.place.place_of.Goals as goal
 

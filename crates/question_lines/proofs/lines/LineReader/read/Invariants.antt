@@ -2,7 +2,7 @@
 use Rattle.std.proofs.Common.{◌≡◌, ℕ, List, take}
 use Rattle.std.specs.Io.KnownBytes.{Consumes, prepend_known}
 use Rattle.question_lines.specs.InputLines.{most_kept_bytes}
-use Rattle.question_lines.specs.Places.{HasNone}
+use Rattle.question_lines.specs.BytePlaces.{HasNone}
 use Rattle.question_lines.proofs.lines.LineReader.read.Given as goal
 
 abbrev pub invariant-loop : goal.invariant-loop

@@ -1,0 +1,25 @@
+-- The texts spell the ids of the question, or are not read.
+use Rattle.std.proofs.Common.{◌≡◌, [], ◌∷◌, inr, refl}
+use Rattle.answer_lines.specs.Replies.{response_status, response_text}
+use Rattle.answer_lines.specs.declared.reply.Form.TheVariants.{Whole}
+use Rattle.graph_commands.specs.OpenerAnswer.{MayOpen}
+use Rattle.graph_commands.specs.declared.refusal.Refusal.TheVariants.{Id}
+use Rattle.graph_commands.proofs.ToldLemmas.{writes_refused}
+use Rattle.unchecked_commands.specs.TrustedReplies.{MayReplyTrusted}
+use Rattle.history_commands.proofs.AskLemmas.{asks_read}
+use Rattle.question_lines.specs.declared.question.Name.TheVariants as named
+use Rattle.question_lines.specs.declared.question.Question.TheVariants as question
+use Rattle.unchecked_commands.proofs.run.run_walk_unchecked.Goals as goal
+
+pub returns-in-Ok-clause-written : goal.returns-in-Ok-clause-written
+returns-in-Ok-clause-written g c =
+    let may = MayReplyTrusted (MayOpen (g.T.Folder.tree c.args.folder.now) c.args.path.now)
+    (g.T.Folder.failure_count c.args.folder.now) (g.T.Folder.failure_count c.run_question_unchecked.new.folder) in
+    asks_read (response_text Whole) response_status named.Walk (c.args.first.now ∷ c.args.second.now ∷ [])
+    (c.run_question_unchecked.new.folder ≡ c.args.folder.now) may (question.Walk c.in-Ok.ids.0 c.in-Ok.ids.1)
+    c.run_question_unchecked.result _ _ refl c.in-Ok.ensures.spelled c.run_question_unchecked.ensures.written
+
+pub returns-in-Err-clause-written : goal.returns-in-Err-clause-written
+returns-in-Err-clause-written g c =
+    writes_refused (response_text Whole) response_status _ (Id c.in-Err.error) _ _ c.refuse.result refl refl
+    (inr (c.in-Err.ensures.refused, refl)) c.refuse.ensures
