@@ -8,7 +8,8 @@ newest 1,000 commits and of all, in milliseconds a process: the elapsed and the 
 `historytool is-ancestor --unchecked`, those of `git merge-base --is-ancestor`, and the ratios. The processes take turns, and all
 is read once before. Each has to answer as Git does. The rows `merge-base` are `historytool merge-base-ids --unchecked` beside
 `git merge-base --all`. A row `git cgraph` is `git cgraph is-ancestor --unchecked`, which finds the
-commit-graph and the ids, and the row `rev-parse` one call of Git for that.
+commit-graph and the ids, and the row `rev-parse` one call of Git for that. The row `git cgraph verify` stands beside
+`graphtool verify`, and the row `git cgraph --version` alone: what `git cgraph` adds to a program.
 
 For each number COMMITS, a layer of so many commits by bench/processes/random_layer.rs, and ours alone.
 """
@@ -26,6 +27,8 @@ from topics import Made
 PAIRS = {"newest": 300, "any": 40}
 """So many pairs are asked for."""
 NEAR = 1000
+CHECKS = 10
+"""So often the whole is checked in a round."""
 ROUNDS = 3
 """How often each pair is asked for. The least time counts."""
 
@@ -51,6 +54,9 @@ def main(folder, *sizes):
             same = report("git cgraph is-ancestor", cgraph, theirs[:50]) and same
             names = [[*git, "rev-parse", "--git-path", "objects/info", *pair] for pair in pairs[:50]]
             report("git rev-parse", names, names)
+    verify = [[common.program(), "verify", info]] * CHECKS
+    same = report("git cgraph verify", [["git", "-C", made.folder, "cgraph", "verify"]] * CHECKS, verify) and same
+    report("git cgraph --version", [["git", "cgraph", "--version"]] * CHECKS, [])
     for size in map(int, sizes):
         path = random_layer(folder, size)
         for kind, count in PAIRS.items():
