@@ -9,7 +9,7 @@ newest 1,000 commits and of all, in milliseconds a process: the elapsed and the 
 is read once before. Each has to answer as Git does. The rows `merge-base` are `historytool merge-base-ids --unchecked` beside
 `git merge-base --all`. A row `git cgraph` is `git cgraph is-ancestor --unchecked`, which finds the
 commit-graph and the ids, and the row `rev-parse` one call of Git for that. The row `git cgraph verify` stands beside
-`graphtool verify`, and the row `git cgraph --version` alone: what `git cgraph` adds to a program.
+`graphtool verify`, and the row `git cgraph --version` alone: what `git cgraph` adds to a program. It is installed in FOLDER.
 
 For each number COMMITS, a layer of so many commits by bench/processes/random_layer.rs, and ours alone.
 """
@@ -17,6 +17,7 @@ For each number COMMITS, a layer of so many commits by bench/processes/random_la
 import os
 import random
 import shutil
+import subprocess
 import sys
 import time
 
@@ -38,6 +39,7 @@ def main(folder, *sizes):
     folder = os.path.abspath(folder)
     os.makedirs(folder, exist_ok=True)
     made, program = Made(folder), common.program("historytool")
+    install(folder)
     common.print_load()
     print("%-24s %9s %9s %9s %9s %7s %7s" % ("ms", "elapsed", "own", "Git", "own", "ratio", "own"))
     chance, info, git = random.Random(7), os.path.join(made.folder, "objects", "info"), ["git", "-C", made.folder]
@@ -85,13 +87,16 @@ def taken(command):
     path = shutil.which(command[0])
     out = [(os.POSIX_SPAWN_OPEN, stream, os.devnull, os.O_WRONLY, 0) for stream in (1, 2)]
     start = time.perf_counter()
-    child = os.posix_spawn(path, command, SURROUNDINGS, file_actions=out)
+    child = os.posix_spawn(path, command, os.environ, file_actions=out)
     _, status, usage = os.wait4(child, 0)
     return os.waitstatus_to_exitcode(status), time.perf_counter() - start, usage.ru_utime + usage.ru_stime
 
 
-SURROUNDINGS = {**os.environ, "PATH": common.TOP + ":" + os.environ["PATH"]}
-"""What stands in the surroundings of each process: `git cgraph` is found."""
+def install(folder):
+    """Installs `git cgraph` below the folder, and has each process find it there."""
+    prefix = os.path.join(folder, "installed")
+    subprocess.check_call([os.path.join(common.TOP, "building", "install"), prefix], stdout=subprocess.DEVNULL)
+    os.environ["PATH"] = os.path.join(prefix, "bin") + ":" + os.environ["PATH"]
 
 
 def commit_id(number):
