@@ -4,3 +4,4 @@ pub mod OpenErrorLemmas
 pub mod OpenedPathLemmas
 pub mod InfoOpeningLemmas
 pub mod Utf8Lemmas
+pub mod WholeOpeningLemmas

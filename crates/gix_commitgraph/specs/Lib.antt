@@ -37,6 +37,8 @@ pub mod Sound
 pub mod Paths
 pub mod OpenAlways
 pub mod Opening
+pub mod ByStanding
+pub mod WholeOpening
 pub mod Statistics
 pub mod Tallies
 pub mod ListedTallies

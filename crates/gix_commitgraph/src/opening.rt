@@ -16,13 +16,16 @@ ghost use Rattle.graph_layer.specs.OpenAnswer.{IsAsExpected};
 ghost use Rattle.graph_layer.specs.OpenRefusals.{OutOfMemoryStandsAlone};
 
 mod by_path;
+mod by_standing;
 mod chain;
 mod file;
 mod info;
 pub mod path;
+mod whole;
 
 use crate::file::File;
 use crate::graph::Graph;
+pub use by_standing::{Opener, open_by, open_info_by};
 use chain::has_chain;
 pub use chain::{open_chain_dir_in, open_lines, read_chain, text_of};
 pub use file::open_file_in;
@@ -30,6 +33,7 @@ use graph_folder::folder::Folder;
 pub use graph_layer::opening::OpenError;
 pub use info::{is_settled, open_info_dir_in};
 use std::alloc::{AllocError, Global};
+use whole::WholeOpener;
 
 /// What stands at a path.
 #[derive(Clone, Copy, Debug, PartialEq, Eq)]
@@ -86,12 +90,7 @@ pub fn open_in<T: Folder>(alloc: Global, folder: &mut T, path: &str) -> Result<G
     ensures graph { IfOk result IsGraph }
     ensures memory { IfErr result OutOfMemoryStandsAlone }
 {
-    match stands_at(alloc, folder, path)? {
-        Standing::File => open_file_in(alloc, folder, path),
-        Standing::ChainDir => open_chain_dir_in(alloc, folder, path),
-        Standing::InfoDir => open_info_dir_in(alloc, folder, path),
-        Standing::Nothing => Err(OpenError::NothingFound),
-    }
+    open_by(alloc, folder, path, &mut WholeOpener)
 }
 
 /// The graph of the layers that an opener has read.

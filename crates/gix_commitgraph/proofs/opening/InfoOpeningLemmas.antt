@@ -16,7 +16,7 @@ abbrev or_chain : Tree → List ℕ → Result (List Layer) OpenError → Result
 or_chain tree folder first = result_or first (chain_opened tree (info_chain folder))
 
 -- a count does not fall
-failures_after_opening-le : (answer : Result (List Layer) OpenError) (count : ℕ) → count < 2 ^ 64
+pub failures_after_opening-le : (answer : Result (List Layer) OpenError) (count : ℕ) → count < 2 ^ 64
     → count ≤ failures_after_opening answer count
 failures_after_opening-le (Ok graph) count h = omega arith
 failures_after_opening-le (Err NothingFound) count h = omega arith

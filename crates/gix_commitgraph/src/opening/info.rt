@@ -9,10 +9,8 @@ ghost use Rattle.gix_commitgraph.specs.Opening.{InfoOpens, MetFailureIfDevice};
 ghost use Rattle.graph_layer.specs.OpenRefusals.{OutOfMemoryStandsAlone};
 
 use crate::graph::Graph;
-use crate::opening::OpenError;
-use crate::opening::chain::open_chain_dir_in;
-use crate::opening::file::open_file_in;
-use crate::opening::path::{info_chain_path, info_file_path};
+use crate::opening::whole::WholeOpener;
+use crate::opening::{OpenError, open_info_by};
 use graph_folder::folder::Folder;
 use std::alloc::Global;
 
@@ -39,13 +37,7 @@ pub fn open_info_dir_in<T: Folder>(
     ensures graph { IfOk result IsGraph }
     ensures memory { IfErr result OutOfMemoryStandsAlone }
 {
-    let file = info_file_path(alloc, path)?;
-    let answer = open_file_in(alloc, folder, file.as_str());
-    if is_settled(&answer) {
-        return answer;
-    }
-    let chain = info_chain_path(alloc, path)?;
-    open_chain_dir_in(alloc, folder, chain.as_str())
+    open_info_by(alloc, folder, path, &mut WholeOpener)
 }
 
 /// Whether this answer of an info folder's file is that of the folder: the chain folder is not
