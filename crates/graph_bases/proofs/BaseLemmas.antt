@@ -12,8 +12,10 @@ use Rattle.graph_bases.specs.Paint.{is_ahead, is_behind, is_base, first_leads, o
 use Rattle.graph_bases.specs.Paint.{coat_at, paint_at, is_queued, is_visited, IsPaint}
 use Rattle.graph_bases.specs.Paint.{Grows}
 use Rattle.graph_bases.specs.Painting.{IsSpread, IsDone, IsPainted}
+use Rattle.graph_bases.specs.Ranks.{Ranking, FallsAlongParents}
 use Rattle.graph_bases.proofs.ReachLemmas.{proper_reaches, proper_then, reaches_then, from_some_then, IsBelowQueued, carried}
 use Rattle.graph_bases.proofs.ReachLemmas.{first_step}
+use Rattle.graph_bases.proofs.RankLemmas.{never_rises, falls_along}
 use Rattle.graph_bases.proofs.PaintLemmas.{stale_first, stale_others, both_of, first_of, others_of, is_both, is_first}
 use Rattle.graph_bases.proofs.PaintLemmas.{is_others, passed_says}
 use Rattle.graph_bases.proofs.PaintLemmas.{first_painted, others_painted}
@@ -29,17 +31,15 @@ module _ (x y : Paint) (grows : Grows (passed x) y) where
   pub passes_both : first_leads x ≡ true → others_lead x ≡ true → is_stale y ≡ true
   passes_both e f = grows.stale ((passed_says x).2 ∙ and_from (first_leads x) (others_lead x) e f)
 
--- A painting that has ended, of a history whose generation numbers are right.
-pub record HasEnded (h : List Node) (a : ℕ) (bs : List ℕ) (coats : List Coat) : Type 0 where
+-- A painting that has ended, of a history whose ranks fall along parents.
+pub record HasEnded (h : List Node) (k : Ranking) (a : ℕ) (bs : List ℕ) (coats : List Coat) : Type 0 where
   pub paint : IsPaint h a bs coats
   pub spread : IsSpread h a bs coats
-  pub done : IsDone h coats
-  pub never_rises : (p q : ℕ) → Reaches h p q → generation_at h q ≤ generation_at h p
-  pub falls : (p q : ℕ) → IsProperAncestor h p q → generation_at h q < GENERATION_NUMBER_MAX
-      → generation_at h q < generation_at h p
+  pub done : IsDone k coats
+  pub along : FallsAlongParents h k
 
-module _ {h : List Node} {a : ℕ} {bs : List ℕ} {coats : List Coat} (ended : HasEnded h a bs coats) where
-  open ended use {paint, spread, done, never_rises, falls}
+module _ {h : List Node} {k : Ranking} {a : ℕ} {bs : List ℕ} {coats : List Coat} (ended : HasEnded h k a bs coats) where
+  open ended use {paint, spread, done, along}
 
   queued_is_common : (p : ℕ) → is_queued coats p ≡ true → IsCommonAncestor h a bs p
   queued_is_common p queued =
@@ -59,8 +59,8 @@ module _ {h : List Node} {a : ℕ} {bs : List ℕ} {coats : List Coat} (ended : 
       (λ (t : is_queued coats p ≡ true). both_ways (is_stale (paint_at coats p)) fresh (done.queued p t))
       (λ (f : is_queued coats p ≡ false).
       let high = done.above p f painted in
-      let rise = never_rises x p (proper_reaches h x p below.2) in
-      let fall = falls x p below.2 (omega arith) in
+      let rise = never_rises along x p (proper_reaches h x p below.2) in
+      let fall = falls_along along x p below.2 (omega arith) in
       absurd (omega arith))
       (cases_Bool (is_queued coats p))
 
@@ -175,13 +175,13 @@ module _ {h : List Node} {a : ℕ} {bs : List ℕ} {coats : List Coat} (ended : 
       (false_from_ne_true (first_leads (paint_at coats p)) (λ (e : first_leads (paint_at coats p) ≡ true).
       alone.1 ((paint.each p).first e)))
 
-  not_capped_below : (p : ℕ) → GENERATION_NUMBER_MAX ≤ generation_at h p → IsBelowQueued h (is_queued coats) p → ⊥
+  not_capped_below : (p : ℕ) → k.cap ≤ k.rank p → IsBelowQueued h (is_queued coats) p → ⊥
   not_capped_below p high below =
       let low = done.uncapped below.0 below.1 in
-      let rise = never_rises below.0 p (proper_reaches h below.0 p below.2) in
+      let rise = never_rises along below.0 p (proper_reaches h below.0 p below.2) in
       absurd (omega arith)
 
-  capped_painted : (p : ℕ) → IsReached h a bs p → GENERATION_NUMBER_MAX ≤ generation_at h p → is_painted (paint_at coats p) ≡ true
+  capped_painted : (p : ℕ) → IsReached h a bs p → k.cap ≤ k.rank p → is_painted (paint_at coats p) ≡ true
   capped_painted p reached high =
       ⊎_elim
       (λ (reaches : Reaches h a p).
@@ -197,7 +197,7 @@ module _ {h : List Node} {a : ℕ} {bs : List ℕ} {coats : List Coat} (ended : 
       reached
 
   -- one that is reached at the cap was visited
-  pub capped_visited : (p : ℕ) → IsReached h a bs p → GENERATION_NUMBER_MAX ≤ generation_at h p
+  pub capped_visited : (p : ℕ) → IsReached h a bs p → k.cap ≤ k.rank p
       → is_visited (coat_at coats p) ≡ true
   capped_visited p reached high =
       ⊎_elim
@@ -219,7 +219,7 @@ module _ {h : List Node} {a : ℕ} {bs : List ℕ} {coats : List Coat} (ended : 
 
 -- Where a's number is below the cap, common ancestors have a best one.
 module _ (h : List Node) (a : ℕ) (bs : List ℕ) (uncapped : generation_at h a < GENERATION_NUMBER_MAX)
-    (never_rises : (p q : ℕ) → Reaches h p q → generation_at h q ≤ generation_at h p)
+    (rises : (p q : ℕ) → Reaches h p q → generation_at h q ≤ generation_at h p)
     (falls : (p q : ℕ) → IsProperAncestor h p q → generation_at h q < GENERATION_NUMBER_MAX
     → generation_at h q < generation_at h p) (none : (p : ℕ) → ¬ IsMergeBase h a bs p) where
   none_above : (n p : ℕ) → generation_at h a ≤ generation_at h p + n → IsCommonAncestor h a bs p → ⊥
@@ -227,8 +227,8 @@ module _ (h : List Node) (a : ℕ) (bs : List ℕ) (uncapped : generation_at h a
       none p (record {
         common = common;
         best = λ q above proper.
-            (let high = never_rises a q above.0 in
-            let low = never_rises q p (proper_reaches h q p proper) in
+            (let high = rises a q above.0 in
+            let low = rises q p (proper_reaches h q p proper) in
             let fall = falls q p proper (omega arith) in
             absurd (omega arith));
       })
@@ -236,8 +236,8 @@ module _ (h : List Node) (a : ℕ) (bs : List ℕ) (uncapped : generation_at h a
       none p (record {
         common = common;
         best = λ q above proper.
-            (let high = never_rises a q above.0 in
-            let low = never_rises q p (proper_reaches h q p proper) in
+            (let high = rises a q above.0 in
+            let low = rises q p (proper_reaches h q p proper) in
             let fall = falls q p proper (omega arith) in
             none_above n q (omega arith) above);
       })

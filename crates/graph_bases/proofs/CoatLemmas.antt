@@ -12,8 +12,7 @@ use Rattle.std.proofs.lemmas.List.Elements.{Contains-push_cases, Contains-append
 use Rattle.std.proofs.lemmas.List.Quantifiers.{all_pairs_push}
 use Rattle.std.proofs.lemmas.List.Sorted.{All-permutation, Contains-permutation, length_permutation, first_le_from_greatest}
 use Rattle.std.proofs.lemmas.List.Sums.{sum_by-set, get_or-le-sum_by, count_by-le-length}
-use Rattle.graph_walks.specs.declared.TheConstants.{GENERATION_NUMBER_MAX}
-use Rattle.graph_walks.specs.History.{Node, IsParent, generation_at}
+use Rattle.graph_walks.specs.History.{Node, IsParent}
 use Rattle.graph_format.specs.declared.Position.{Position}
 use Rattle.commit_search.specs.Positions.{numbers_of}
 use Rattle.graph_bases.specs.declared.paint.Coat.{Coat}
@@ -21,9 +20,10 @@ use Rattle.graph_bases.specs.declared.paint.Paint.{Paint}
 use Rattle.graph_bases.specs.declared.paint.Paint.TheVariants.{First, Others}
 use Rattle.graph_bases.specs.Paint.{is_base, first_leads, others_lead, is_stale, is_painted, covers, joined, passed, unknown}
 use Rattle.graph_bases.specs.Paint.{is_fresh, bare, coat_at, paint_at, is_queued, IsSo, IsPaint, Grows}
-use Rattle.graph_bases.specs.Painting.{AreCandidates, IsSpread, IsSpreadBut, entry_cmp, IsNumbered, IsWaiting, IsLevel}
-use Rattle.graph_bases.specs.Painting.{Joins, JoinsNumbered, Adds, IsDone}
+use Rattle.graph_bases.specs.Painting.{AreCandidates, IsSpread, IsSpreadBut, entry_cmp, IsRanked, IsWaiting, IsLevel}
+use Rattle.graph_bases.specs.Painting.{Joins, JoinsRanked, Adds, IsDone}
 use Rattle.graph_bases.specs.Painting.{work}
+use Rattle.graph_bases.specs.Ranks.{Ranking}
 use Rattle.graph_bases.proofs.ReachLemmas.{reaches_itself}
 use Rattle.graph_bases.proofs.PaintLemmas.{grows_refl, grows_trans, grows_left, grows_right, covers_grows, joined_knows}
 use Rattle.graph_bases.proofs.PaintLemmas.{so_joined, base_is_new, base_first, base_others}
@@ -208,9 +208,9 @@ module _ (count : ℕ) (coats : List Coat) (queue more : List (ℕ × ℕ)) (p :
 
 -- What is so in a history.
 module _ {count p : ℕ} {x : Paint} {coats after : List Coat} {queue more : List (ℕ × ℕ)} {old : List ℕ}
-    (added : AddedBy count p x coats after queue more old) (h : List Node) where
-  pub added_paint : (a : ℕ) (bs : List ℕ) → IsPaint h a bs coats → IsSo h a bs p x → IsPaint h a bs after
-  added_paint a bs paint so = record {
+    (added : AddedBy count p x coats after queue more old) where
+  pub added_paint : (h : List Node) (a : ℕ) (bs : List ℕ) → IsPaint h a bs coats → IsSo h a bs p x → IsPaint h a bs after
+  added_paint h a bs paint so = record {
     coats_len = added.len ∙ paint.coats_len;
     each = λ q.
         ⊎_elim
@@ -223,8 +223,8 @@ module _ {count p : ℕ} {x : Paint} {coats after : List Coat} {queue more : Lis
         (cases_eq q p);
   }
 
-  pub added_level : JoinsNumbered h p queue more → (level : ℕ) → generation_at h p ≤ level → IsLevel h coats queue level
-      → IsLevel h after more level
+  pub added_level : {k : Ranking} → JoinsRanked k p queue more → (level : ℕ) → k.rank p ≤ level → IsLevel k coats queue level
+      → IsLevel k after more level
   added_level joins level low is = record {
     above = λ q settled painted.
         (let same = added.adds.kept q settled in
@@ -273,11 +273,10 @@ joins_pushed p g old new order moved = record {
   longer = let len = length_permutation ((g, p) ∷ old) new moved in omega arith;
 }
 
-pub numbered_pushed : (h : List Node) (p g : ℕ) (old new : List (ℕ × ℕ)) → g ≡ generation_at h p
-    → IsPermutation ((g, p) ∷ old) new → JoinsNumbered h p old new
-numbered_pushed h p g old new is moved = record {
-  numbered = λ all.
-      All-permutation (IsNumbered h) ((g, p) ∷ old) new moved (All-cons (IsNumbered h) (g, p) old is all);
+pub ranked_pushed : (k : Ranking) (p g : ℕ) (old new : List (ℕ × ℕ)) → g ≡ k.rank p → IsPermutation ((g, p) ∷ old) new
+    → JoinsRanked k p old new
+ranked_pushed k p g old new is moved = record {
+  ranked = λ all. All-permutation (IsRanked k) ((g, p) ∷ old) new moved (All-cons (IsRanked k) (g, p) old is all);
   below = λ level low all.
       All-permutation (λ (y : ℕ × ℕ). y.0 ≤ level) ((g, p) ∷ old) new moved
       (All-cons (λ (y : ℕ × ℕ). y.0 ≤ level) (g, p) old (omega arith) all);
@@ -401,33 +400,32 @@ module _ {count : ℕ} {coats : List Coat} {queue rest : List (ℕ × ℕ)} {nex
       work = taken_work;
     }
 
-  -- What is so in a history.
-  module _ (h : List Node) (numbered : All (IsNumbered h) queue) where
-    taken_numbered : All (IsNumbered h) (next ∷ rest)
-    taken_numbered = All-permutation (IsNumbered h) queue (next ∷ rest) moved numbered
+  -- What is so of its rank.
+  module _ (k : Ranking) (ranked : All (IsRanked k) queue) where
+    taken_ranked : All (IsRanked k) (next ∷ rest)
+    taken_ranked = All-permutation (IsRanked k) queue (next ∷ rest) moved ranked
 
-    pub next_number : next.0 ≡ generation_at h next.1
-    next_number = All-head (IsNumbered h) next rest taken_numbered
+    pub next_rank : next.0 ≡ k.rank next.1
+    next_rank = All-head (IsRanked k) next rest taken_ranked
 
-    pub rest_numbered : All (IsNumbered h) rest
-    rest_numbered = All-tail (IsNumbered h) next rest taken_numbered
+    pub rest_ranked : All (IsRanked k) rest
+    rest_ranked = All-tail (IsRanked k) next rest taken_ranked
 
-    pub all_low : (p : ℕ) → is_queued coats p ≡ true → generation_at h p ≤ next.0
+    pub all_low : (p : ℕ) → is_queued coats p ≡ true → k.rank p ≤ next.0
     all_low p queued =
         let has = waiting.queued p queued in
-        let is : has.0 ≡ generation_at h p = All-contains (IsNumbered h) queue (has.0, p) numbered has.1 in
+        let is : has.0 ≡ k.rank p = All-contains (IsRanked k) queue (has.0, p) ranked has.1 in
         let low = queued_low has.0 p has.1 in
         omega arith
 
-    module _ {level : ℕ} (levelled : IsLevel h coats queue level) where
+    module _ {level : ℕ} (levelled : IsLevel k coats queue level) where
       taken_low : next.0 ≤ level
       taken_low =
           All-head (λ (e : ℕ × ℕ). e.0 ≤ level) next rest
           (All-permutation (λ (e : ℕ × ℕ). e.0 ≤ level) queue (next ∷ rest) moved levelled.below)
 
       -- where it may stop
-      pub stops : ((p : ℕ) → is_queued coats p ≡ true → is_stale (paint_at coats p) ≡ true) → next.0 < GENERATION_NUMBER_MAX
-          → IsDone h coats
+      pub stops : ((p : ℕ) → is_queued coats p ≡ true → is_stale (paint_at coats p) ≡ true) → next.0 < k.cap → IsDone k coats
       stops stale low = record {
         level = next.0;
         above = λ p settled painted. (let high = levelled.above p settled painted in let le = taken_low in omega arith);
@@ -438,20 +436,20 @@ module _ {count : ℕ} {coats : List Coat} {queue rest : List (ℕ × ℕ)} {nex
 
       -- where it goes on
       pub taken_level : {after : List Coat} → TakenBy count coats after queue rest next
-          → IsLevel h after rest (generation_at h next.1)
+          → IsLevel k after rest (k.rank next.1)
       taken_level {after} taken = record {
         above = λ q settled painted.
             ⊎_elim
-            (λ (e : q ≡ next.1). let same = ap (generation_at h) e in omega arith)
+            (λ (e : q ≡ next.1). let same : k.rank q ≡ k.rank next.1 = ap (λ (x : ℕ). k.rank x) e in omega arith)
             (λ (apart : q ≢ next.1).
             let high =
             levelled.above q (sym (ap (λ (m : Coat). m.queued) (taken.there q apart)) ∙ settled)
             (subst (λ (y : Paint). is_painted y ≡ true) (taken.same q) painted) in
             let le = taken_low in
-            let is = next_number in
+            let is = next_rank in
             omega arith)
             (cases_eq q next.1);
-        below = subst (λ (g : ℕ). All (λ (e : ℕ × ℕ). e.0 ≤ g) rest) next_number rest_low;
+        below = subst (λ (g : ℕ). All (λ (e : ℕ × ℕ). e.0 ≤ g) rest) next_rank rest_low;
       }
 
 -- What is so in a history after it was taken.
@@ -499,9 +497,9 @@ pub none_queued : (count : ℕ) (coats : List Coat) (queue : List (ℕ × ℕ)) 
 none_queued count coats queue waiting none p queued =
     let has = waiting.queued p queued in let lt = has.1.1 in omega arith
 
-pub stops_empty : (h : List Node) (count : ℕ) (coats : List Coat) (queue : List (ℕ × ℕ)) (level : ℕ)
-    → IsWaiting count coats queue → IsLevel h coats queue level → length queue ≡ 0 → IsDone h coats
-stops_empty h count coats queue level waiting levelled none = record {
+pub stops_empty : (k : Ranking) (count : ℕ) (coats : List Coat) (queue : List (ℕ × ℕ)) (level : ℕ)
+    → IsWaiting count coats queue → IsLevel k coats queue level → length queue ≡ 0 → IsDone k coats
+stops_empty k count coats queue level waiting levelled none = record {
   level = level;
   above = levelled.above;
   queued = λ p queued. absurd (none_queued count coats queue waiting none p queued);
@@ -558,8 +556,8 @@ begun_all h a bs n coats begun all = record {
 -- where nothing is known, and none is queued
 module _ (h : List Node) (coats : List Coat) (queue : List (ℕ × ℕ)) (none : (p : ℕ) → coat_at coats p ≡ bare)
     (empty : queue ≡ []) where
-  pub bare_level : (level : ℕ) → IsLevel h coats queue level
-  bare_level level = record {
+  pub bare_level : (k : Ranking) (level : ℕ) → IsLevel k coats queue level
+  bare_level k level = record {
     above = λ p settled painted.
         absurd (false≢true (sym (ap (λ (m : Coat). is_painted m.paint) (none p)) ∙ painted));
     below = subst (λ (es : List (ℕ × ℕ)). All (λ (e : ℕ × ℕ). e.0 ≤ level) es) (sym empty) (All-nil (λ (e : ℕ × ℕ). e.0 ≤ level));

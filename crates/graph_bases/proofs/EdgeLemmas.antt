@@ -10,51 +10,41 @@ use Rattle.std.proofs.lemmas.List.{length-map}
 use Rattle.std.proofs.lemmas.List.Elements.{All-nil, All-weaker, All-contains_itself}
 use Rattle.std.proofs.lemmas.List.Sorted.{Contains-permutation, length_permutation}
 use Rattle.std.proofs.lemmas.List.Sums.{sum_by-set}
-use Rattle.graph_walks.specs.declared.TheConstants.{GENERATION_NUMBER_MAX}
-use Rattle.graph_walks.specs.History.{Node, IsParent, generation_at}
-use Rattle.graph_walks.specs.Walks.{Reaches, IsProperAncestor}
+use Rattle.graph_walks.specs.History.{Node}
 use Rattle.graph_bases.specs.Bases.{IsStart, AreBelowCap, IsOnOneSide, IsAtEdge, IsAboveEdge}
 use Rattle.commit_search.specs.Cardinality.{AtLeast}
 use Rattle.graph_bases.specs.declared.paint.Coat.{Coat}
 use Rattle.graph_bases.specs.declared.paint.Paint.{Paint}
 use Rattle.graph_bases.specs.Paint.{is_painted, is_stale, is_fresh, is_visited, is_on_one_side, covers, joined, bare}
 use Rattle.graph_bases.specs.Paint.{coat_at, paint_at, is_queued, IsSo, IsPaint}
-use Rattle.graph_bases.specs.Painting.{IsLevel, IsNumbered, entry_cmp, IsWaiting, IsKnownEdge, IsVisiting, IsPainted}
+use Rattle.graph_bases.specs.Painting.{IsLevel, IsRanked, entry_cmp, IsWaiting, IsKnownEdge, IsVisiting, IsPainted}
+use Rattle.graph_bases.specs.Ranks.{Ranking, FallsAlongParents}
 use Rattle.graph_bases.proofs.PaintLemmas.{joined_painted, joined_fresh, one_side_painted, one_side, painted_leads}
-use Rattle.graph_bases.proofs.ReachLemmas.{proper_step, reaches_itself}
-use Rattle.graph_bases.proofs.CoatLemmas.{IsNext, TakenBy, next_number, next_inside, all_low}
+use Rattle.graph_bases.proofs.RankLemmas.{never_rises}
+use Rattle.graph_bases.proofs.CoatLemmas.{IsNext, TakenBy, next_rank, next_inside, all_low}
 use Rattle.graph_bases.proofs.FoundLemmas.{counted_number, some_counted, tested_within}
 use Rattle.commit_search.proofs.CardinalityLemmas.{no_more}
 
 -- a commit of which something is known is below the cap
-pub painted_below_cap : {h : List Node} {a : ℕ} {bs : List ℕ} {coats : List Coat} → IsPaint h a bs coats
-    → ((p q : ℕ) → Reaches h p q → generation_at h q ≤ generation_at h p) → AreBelowCap h a bs
-    → (p : ℕ) → is_painted (paint_at coats p) ≡ true → generation_at h p < GENERATION_NUMBER_MAX
-painted_below_cap {h} {a} {bs} {coats} paint never_rises below p painted =
+pub painted_below_cap : {h : List Node} {k : Ranking} {a : ℕ} {bs : List ℕ} {coats : List Coat} → IsPaint h a bs coats
+    → FallsAlongParents h k → AreBelowCap k a bs → (p : ℕ) → is_painted (paint_at coats p) ≡ true → k.rank p < k.cap
+painted_below_cap {h} {k} {a} {bs} {coats} paint along below p painted =
     ⊎_elim
     (λ e.
-    let low = never_rises a p ((paint.each p).first e) in
+    let low = never_rises along a p ((paint.each p).first e) in
     let cap = below a (inl refl) in
     omega arith)
     (λ e.
     let some = (paint.each p).others e in
-    let low = never_rises some.0 p some.2 in
+    let low = never_rises along some.0 p some.2 in
     let cap = below some.0 (inr some.1) in
     omega arith)
     (painted_leads (paint_at coats p) painted)
 
--- a parent of a commit below the cap
-pub falls_to_parent : (h : List Node) (p q : ℕ) → generation_at h q ≤ generation_at h p
-    → generation_at h p < GENERATION_NUMBER_MAX
-    → ((p q : ℕ) → IsProperAncestor h p q → generation_at h q < GENERATION_NUMBER_MAX → generation_at h q < generation_at h p)
-    → IsParent h p q → generation_at h q < generation_at h p
-falls_to_parent h p q low below falls parent =
-    falls p q (proper_step h p p q (reaches_itself h p parent.0) parent) (omega arith)
-
 -- one below the level of which something is known
-pub painted_queued : (h : List Node) (coats : List Coat) (queue : List (ℕ × ℕ)) (level p : ℕ) → IsLevel h coats queue level
-    → generation_at h p < level → is_painted (paint_at coats p) ≡ true → is_queued coats p ≡ true
-painted_queued h coats queue level p levelled low painted =
+pub painted_queued : (k : Ranking) (coats : List Coat) (queue : List (ℕ × ℕ)) (level p : ℕ) → IsLevel k coats queue level
+    → k.rank p < level → is_painted (paint_at coats p) ≡ true → is_queued coats p ≡ true
+painted_queued k coats queue level p levelled low painted =
     ⊎_elim
     (λ (queued : is_queued coats p ≡ true). queued)
     (λ (settled : is_queued coats p ≡ false). let high = levelled.above p settled painted in absurd (omega arith))
@@ -111,8 +101,8 @@ module _ (h : List Node) (a : ℕ) (bs : List ℕ) (coats : List Coat) (none : (
       (λ (le : count_by t coats ≤ 0). omega arith)
       (cases_lt 0 (count_by t coats))
 
-  pub visiting_none : IsVisiting h a bs coats 0
-  visiting_none = record {
+  pub visiting_none : (k : Ranking) → IsVisiting h k a bs coats 0
+  visiting_none k = record {
     painted = λ p e. absurd (false≢true (sym (ap (λ (m : Coat). m.queued) (none p)) ∙ e));
     edge = λ p e f. absurd (false≢true (sym (ap (λ (m : Coat). is_painted m.paint) (none p)) ∙ e));
     above = λ p f e. absurd (false≢true (sym (ap (λ (m : Coat). is_painted m.paint) (none p)) ∙ e));
@@ -127,8 +117,8 @@ module _ (h : List Node) (a : ℕ) (bs : List ℕ) (coats : List Coat) (none : (
     count = ap length empty ∙ sym (none_counted (λ (m : Coat). m.queued) refl);
   }
 
-  pub numbered_none : (queue : List (ℕ × ℕ)) → queue ≡ [] → All (IsNumbered h) queue
-  numbered_none queue empty = subst (All (IsNumbered h)) (sym empty) (All-nil (IsNumbered h))
+  pub ranked_none : (k : Ranking) (queue : List (ℕ × ℕ)) → queue ≡ [] → All (IsRanked k) queue
+  ranked_none k queue empty = subst (All (IsRanked k)) (sym empty) (All-nil (IsRanked k))
 
   pub paint_none : length coats ≡ length h → IsPaint h a bs coats
   paint_none len = record {
@@ -147,13 +137,13 @@ unvisited_queued m e = ap (λ (b : Bool). is_painted m.paint && not b) e ∙ and
   and_not false = refl
 
 -- Paint was added to one that is bare or queued.
-module _ (h : List Node) (a : ℕ) (bs : List ℕ) (coats after : List Coat) (p : ℕ) (x : Paint) (visits : ℕ) (new : Coat)
-    (inside : p < length coats) (is_new : new ≡ record { paint = joined (paint_at coats p) x; queued = true })
+module _ {k : Ranking} (h : List Node) (a : ℕ) (bs : List ℕ) (coats after : List Coat) (p : ℕ) (x : Paint) (visits : ℕ)
+    (new : Coat) (inside : p < length coats) (is_new : new ≡ record { paint = joined (paint_at coats p) x; queued = true })
     (is_after : after ≡ set coats p new) (here : coat_at after p ≡ record { paint = joined (paint_at coats p) x; queued = true })
     (there : (q : ℕ) → q ≢ p → coat_at after q ≡ coat_at coats q)
     (waits : is_painted (paint_at coats p) ≡ true → is_queued coats p ≡ true)
     (at_edge : is_stale x ≡ false → IsKnownEdge h a bs coats p) (uncovered : covers (paint_at coats p) x ≡ false)
-    (visiting : IsVisiting h a bs coats visits) where
+    (visiting : IsVisiting h k a bs coats visits) where
   here_at : (q : ℕ) → q ≡ p → coat_at after q ≡ record { paint = joined (paint_at coats p) x; queued = true }
   here_at q e = ap (coat_at after) e ∙ here
 
@@ -179,7 +169,7 @@ module _ (h : List Node) (a : ℕ) (bs : List ℕ) (coats after : List Coat) (p 
       (λ (e : is_painted (paint_at coats p) ≡ false). ap (λ (b : Bool). b && not (is_queued coats p)) e)
       (cases_Bool (is_painted (paint_at coats p)))
 
-  pub visiting_added : IsVisiting h a bs after visits
+  pub visiting_added : IsVisiting h k a bs after visits
   visiting_added = record {
     painted = λ q queued.
         ⊎_elim
@@ -221,11 +211,11 @@ module _ (h : List Node) (a : ℕ) (bs : List ℕ) (coats after : List Coat) (p 
   }
 
 -- A commit was taken from the queue, while one is fresh.
-module _ {h : List Node} {a : ℕ} {bs : List ℕ} {n : ℕ} {coats after : List Coat} {queue rest : List (ℕ × ℕ)} {next : ℕ × ℕ}
-    {visits : ℕ} {coat : Coat} (is_next : IsNext n coats queue rest next) (numbered : All (IsNumbered h) queue)
+module _ {h : List Node} {k : Ranking} {a : ℕ} {bs : List ℕ} {n : ℕ} {coats after : List Coat} {queue rest : List (ℕ × ℕ)}
+    {next : ℕ × ℕ} {visits : ℕ} {coat : Coat} (is_next : IsNext n coats queue rest next) (ranked : All (IsRanked k) queue)
     (is_coat : coat ≡ record { paint = paint_at coats next.1; queued = false }) (is_after : after ≡ set coats next.1 coat)
     (taken : TakenBy n coats after queue rest next) (queued : is_queued coats next.1 ≡ true)
-    (some : 0 < count_by is_fresh coats) (visiting : IsVisiting h a bs coats visits) where
+    (some : 0 < count_by is_fresh coats) (visiting : IsVisiting h k a bs coats visits) where
   settles : (q : ℕ) → is_queued coats q ≡ false → is_queued after q ≡ false
   settles q settled =
       ⊎_elim
@@ -242,7 +232,7 @@ module _ {h : List Node} {a : ℕ} {bs : List ℕ} {n : ℕ} {coats after : List
       inr (c, settles c known.1, ap is_on_one_side (taken.same c) ∙ known.2, known.3))
       edge
 
-  pub visiting_taken : IsVisiting h a bs after (visits + 1)
+  pub visiting_taken : IsVisiting h k a bs after (visits + 1)
   visiting_taken = record {
     painted = λ q is.
         ⊎_elim
@@ -259,9 +249,9 @@ module _ {h : List Node} {a : ℕ} {bs : List ℕ} {n : ℕ} {coats after : List
         let fresh = some_counted is_fresh coats some in
         let f = fresh.0 in
         let parts = and_parts (is_queued coats f) (not (is_stale (paint_at coats f))) fresh.1 in
-        let le = all_low is_next h numbered f parts.0 in
-        let at = next_number is_next h numbered in
-        let same = ap (generation_at h) e in (
+        let le = all_low is_next k ranked f parts.0 in
+        let at = next_rank is_next k ranked in
+        let same : k.rank q ≡ k.rank next.1 = ap (λ (x : ℕ). k.rank x) e in (
           f,
           keeps f (visiting.edge f (visiting.painted f parts.0) (not_true (is_stale (paint_at coats f)) parts.1)),
           omega arith,
@@ -289,8 +279,8 @@ module _ {h : List Node} {a : ℕ} {bs : List ℕ} {n : ℕ} {coats after : List
     not_true false e = refl
 
 -- What was visited at the end.
-module _ {h : List Node} {a : ℕ} {bs : List ℕ} {coats : List Coat} {visits : ℕ} (painted : IsPainted h a bs coats)
-    (paint : IsPaint h a bs coats) (visiting : IsVisiting h a bs coats visits) where
+module _ {h : List Node} {k : Ranking} {a : ℕ} {bs : List ℕ} {coats : List Coat} {visits : ℕ}
+    (painted : IsPainted h a bs coats) (paint : IsPaint h a bs coats) (visiting : IsVisiting h k a bs coats visits) where
   is_one_side : (c : ℕ) → is_on_one_side (paint_at coats c) ≡ true → IsOnOneSide h a bs c
   is_one_side c e =
       ⊎_elim
@@ -305,7 +295,7 @@ module _ {h : List Node} {a : ℕ} {bs : List ℕ} {coats : List Coat} {visits :
       (λ known. inr (known.0, is_one_side known.0 known.2, known.3))
       edge
 
-  is_above_edge : (p : ℕ) → is_visited (coat_at coats p) ≡ true → IsAboveEdge h a bs p
+  is_above_edge : (p : ℕ) → is_visited (coat_at coats p) ≡ true → IsAboveEdge h k a bs p
   is_above_edge p visited =
       let parts = and_parts (is_painted (paint_at coats p)) (not (is_queued coats p)) visited in
       let settled = not_is (is_queued coats p) parts.1 in
@@ -320,7 +310,7 @@ module _ {h : List Node} {a : ℕ} {bs : List ℕ} {coats : List Coat} {visits :
         not_is true e = absurd (false≢true e)
         not_is false e = refl
 
-  pub at_most_once : AtLeast visits (IsAboveEdge h a bs)
+  pub at_most_once : AtLeast visits (IsAboveEdge h k a bs)
   at_most_once =
       let all =
       counted_number is_visited coats (λ p. is_visited (coat_at coats p) ≡ true) (λ p. ((λ e. e), (λ e. e)))
@@ -328,6 +318,6 @@ module _ {h : List Node} {a : ℕ} {bs : List ℕ} {coats : List Coat} {visits :
         all.0,
         all.2,
         all.1.once,
-        All-weaker (Contains all.0) (IsAboveEdge h a bs)
+        All-weaker (Contains all.0) (IsAboveEdge h k a bs)
             (λ p contained. is_above_edge p ((all.1.those p).0 contained)) all.0 (All-contains_itself all.0),
       )

@@ -1,4 +1,5 @@
 pub mod ReachLemmas
+pub mod RankLemmas
 pub mod TrailLemmas
 pub mod SheetLemmas
 pub mod PaintLemmas

@@ -16,6 +16,7 @@ use Rattle.graph_bases.specs.declared.paint.Paint.{Paint}
 use Rattle.graph_bases.specs.declared.paint.Paint.TheVariants.{Bare}
 use Rattle.graph_bases.specs.Paint.{covers, joined, passed, paint_at, is_queued, Grows}
 use Rattle.graph_bases.specs.Painting.{IsSpread, IsSpreadBut, IsPassed, PassesPaint, PassesOn}
+use Rattle.graph_bases.specs.Ranks.{Ranking}
 use Rattle.graph_bases.specs.Trails.{trail_at, trail_in}
 use Rattle.commit_search.proofs.EdgeListLemmas.{contained_cases, named_internal, named_last, named_past}
 use Rattle.graph_bases.proofs.PaintLemmas.{grows_trans, grows_left, grows_right, grows_joined, covers_joined}
@@ -236,9 +237,10 @@ module _ (trail after : List Paint) (next : ℕ) (x : Paint) (here : trail_at af
       (cases_eq index next)
 
 -- Words were passed, and nothing else has changed.
-pub passes_with : {T : Type 0} (count : ℕ) (says : Told → Type 0) (s : Painting T) (t : Trails) (p : ℕ) (x : Paint)
-    → PassesPaint count says s p x → PassesPaint count says (record s { coats = record s.coats { trails = t } }) p x
-passes_with count says s t p x r = record {
+pub passes_with : {T : Type 0} (count : ℕ) (says : Told → Type 0) (k : Told → Ranking) (s : Painting T) (t : Trails) (p : ℕ)
+    (x : Paint) → PassesPaint count says k s p x
+    → PassesPaint count says k (record s { coats = record s.coats { trails = t } }) p x
+passes_with count says k s t p x r = record {
   painting = record {
     few = r.painting.few;
     coats_len = r.painting.coats_len;
@@ -258,7 +260,7 @@ passes_with count says s t p x r = record {
       record {
         painting = record {
           paint = was.painting.paint;
-          numbered = was.painting.numbered;
+          ranked = was.painting.ranked;
           visiting = was.painting.visiting;
         };
         so = was.so;
@@ -270,9 +272,9 @@ passes_with count says s t p x r = record {
 }
 
 -- More of the source was read.
-pub passes_kept : {T : Type 0} (count : ℕ) (says more : Told → Type 0) (s : Painting T) (p : ℕ) (x : Paint)
-    → ((t : Told) → more t → says t) → PassesPaint count says s p x → PassesPaint count more s p x
-passes_kept count says more s p x kept r = record {
+pub passes_kept : {T : Type 0} (count : ℕ) (says more : Told → Type 0) (k : Told → Ranking) (s : Painting T) (p : ℕ) (x : Paint)
+    → ((t : Told) → more t → says t) → PassesPaint count says k s p x → PassesPaint count more k s p x
+passes_kept count says more k s p x kept r = record {
   painting = r.painting;
   within = r.within;
   same = r.same;

@@ -4,12 +4,12 @@ use Rattle.std.proofs.Common.{sum_by, count_by, Contains, refl, ap, inl, inr, �
 use Rattle.std.proofs.lemmas.Bool.{true≢false, cases_Bool, both_ways, and_from}
 use Rattle.std.proofs.lemmas.List.Elements.{All-weaker, All-contains, All-contains_itself}
 use Rattle.std.proofs.lemmas.List.Sums.{sum_by-cons, sum_by-set, count_by-le-length}
-use Rattle.graph_walks.specs.declared.TheConstants.{GENERATION_NUMBER_MAX}
-use Rattle.graph_walks.specs.History.{Node, generation_at}
+use Rattle.graph_walks.specs.History.{Node}
 use Rattle.commit_search.specs.Cardinality.{AtLeast, AtMost}
 use Rattle.commit_search.proofs.CardinalityLemmas.{no_more}
 use Rattle.graph_bases.specs.Bases.{IsReached, HasToBeVisited, IsOnOneSide, IsMergeBase, AreBelowCap}
-use Rattle.graph_bases.specs.Bases.{IsAboveEdge, AreVisits}
+use Rattle.graph_bases.specs.Bases.{IsAboveEdge, AreVisitsBy}
+use Rattle.graph_bases.specs.Ranks.{Ranking}
 use Rattle.graph_bases.specs.declared.paint.Coat.{Coat}
 use Rattle.graph_bases.specs.declared.paint.Paint.{Paint}
 use Rattle.graph_bases.specs.declared.paint.Paint.TheVariants.{Bare, First, Others, Both, Stale}
@@ -158,47 +158,46 @@ module _ (h : List Node) (a : ℕ) (bs : List ℕ) (coats : List Coat) (visits :
             (painted_leads (paint_at coats p) painted)
 
 -- What was visited at the end.
-module _ {h : List Node} {a : ℕ} {bs : List ℕ} {coats : List Coat} {visits : ℕ} (painted : IsPainted h a bs coats)
-    (paint : IsPaint h a bs coats) (done : IsDone h coats) (count : IsVisitCount coats visits)
-    (capped : (p : ℕ) → IsReached h a bs p → GENERATION_NUMBER_MAX ≤ generation_at h p → is_visited (coat_at coats p) ≡ true)
-  where
-    -- one that is not stale is not queued any more
-    live_visited : (p : ℕ) → (is_painted (paint_at coats p) ≡ true) × (is_stale (paint_at coats p) ≡ false)
-        → is_visited (coat_at coats p) ≡ true
-    live_visited p live =
-        ⊎_elim
-        (λ (queued : is_queued coats p ≡ true).
-        absurd (both_ways (is_stale (paint_at coats p)) live.1 (done.queued p queued)))
-        (λ (settled : is_queued coats p ≡ false).
-        and_from (is_painted (paint_at coats p)) (not (is_queued coats p)) live.0 (ap not settled))
-        (cases_Bool (is_queued coats p))
+module _ {h : List Node} {k : Ranking} {a : ℕ} {bs : List ℕ} {coats : List Coat} {visits : ℕ}
+    (painted : IsPainted h a bs coats) (paint : IsPaint h a bs coats) (done : IsDone k coats) (count : IsVisitCount coats visits)
+    (capped : (p : ℕ) → IsReached h a bs p → k.cap ≤ k.rank p → is_visited (coat_at coats p) ≡ true) where
+  -- one that is not stale is not queued any more
+  live_visited : (p : ℕ) → (is_painted (paint_at coats p) ≡ true) × (is_stale (paint_at coats p) ≡ false)
+      → is_visited (coat_at coats p) ≡ true
+  live_visited p live =
+      ⊎_elim
+      (λ (queued : is_queued coats p ≡ true).
+      absurd (both_ways (is_stale (paint_at coats p)) live.1 (done.queued p queued)))
+      (λ (settled : is_queued coats p ≡ false).
+      and_from (is_painted (paint_at coats p)) (not (is_queued coats p)) live.0 (ap not settled))
+      (cases_Bool (is_queued coats p))
 
-    was_visited : (p : ℕ) → HasToBeVisited h a bs p → is_visited (coat_at coats p) ≡ true
-    was_visited p told =
-        ⊎_elim
-        (λ (side : IsOnOneSide h a bs p).
-        ⊎_elim
-        (λ ahead. live_visited p (ahead_live (paint_at coats p) ((painted.ahead p).1 ahead)))
-        (λ behind. live_visited p (behind_live (paint_at coats p) ((painted.behind p).1 behind)))
-        side)
-        (λ more.
-        ⊎_elim
-        (λ (base : IsMergeBase h a bs p). live_visited p (base_live (paint_at coats p) ((painted.base p).1 base)))
-        (λ high. capped p high.0 high.1)
-        more)
-        told
+  was_visited : (p : ℕ) → HasToBeVisited h k a bs p → is_visited (coat_at coats p) ≡ true
+  was_visited p told =
+      ⊎_elim
+      (λ (side : IsOnOneSide h a bs p).
+      ⊎_elim
+      (λ ahead. live_visited p (ahead_live (paint_at coats p) ((painted.ahead p).1 ahead)))
+      (λ behind. live_visited p (behind_live (paint_at coats p) ((painted.behind p).1 behind)))
+      side)
+      (λ more.
+      ⊎_elim
+      (λ (base : IsMergeBase h a bs p). live_visited p (base_live (paint_at coats p) ((painted.base p).1 base)))
+      (λ high. capped p high.0 high.1)
+      more)
+      told
 
-    no_fewer : AtMost visits (HasToBeVisited h a bs)
-    no_fewer ps once all =
-        let those =
-        counted_number is_visited coats (λ p. is_visited (coat_at coats p) ≡ true) (λ p. ((λ e. e), (λ e. e)))
-        (λ p e. tested_within is_visited refl coats p e) (count_by is_visited coats) refl in
-        let least = count.least in
-        let bound =
-        no_more ps those.0 once
-        (λ p contained. (those.1.those p).1 (was_visited p (All-contains (HasToBeVisited h a bs) ps p all contained))) in
-        let len = those.2 in
-        omega arith
+  no_fewer : AtMost visits (HasToBeVisited h k a bs)
+  no_fewer ps once all =
+      let those =
+      counted_number is_visited coats (λ p. is_visited (coat_at coats p) ≡ true) (λ p. ((λ e. e), (λ e. e)))
+      (λ p e. tested_within is_visited refl coats p e) (count_by is_visited coats) refl in
+      let least = count.least in
+      let bound =
+      no_more ps those.0 once
+      (λ p contained. (those.1.those p).1 (was_visited p (All-contains (HasToBeVisited h k a bs) ps p all contained))) in
+      let len = those.2 in
+      omega arith
 
-    pub visits_told : (AreBelowCap h a bs → AtLeast visits (IsAboveEdge h a bs)) → AreVisits h a bs visits
-    visits_told once = record { most = at_most_three_times h a bs coats visits paint count; least = no_fewer; below_cap = once }
+  pub visits_told : (AreBelowCap k a bs → AtLeast visits (IsAboveEdge h k a bs)) → AreVisitsBy h k a bs visits
+  visits_told once = record { most = at_most_three_times h a bs coats visits paint count; least = no_fewer; below_cap = once }

@@ -2,10 +2,10 @@
 -- merge-base", DESCRIPTION and DISCUSSION); and how far the commits have come apart ("git for-each-ref", ahead-behind).
 use Rattle.std.specs.Prelude.{◌≡◌, ◌⊎◌, ◌↔◌, ℕ, ◌*◌, ◌<◌, ◌≤◌, List, Contains}
 use Rattle.std.specs.List.Sorted.{IsStrictlyIncreasing}
-use Rattle.graph_walks.specs.declared.TheConstants.{GENERATION_NUMBER_MAX}
-use Rattle.graph_walks.specs.History.{Node, IsParent, generation_at}
+use Rattle.graph_walks.specs.History.{Node, IsParent}
 use Rattle.graph_walks.specs.Walks.{Reaches, IsProperAncestor}
 use Rattle.commit_search.specs.Cardinality.{AtLeast, AtMost}
+use Rattle.graph_bases.specs.Ranks.{Ranking, by_generation}
 
 -- some of these commits leads to p; each commit leads to itself
 abbrev pub IsReachedFromSome : List Node → List ℕ → ℕ → Type 0
@@ -33,7 +33,7 @@ pub record AreMergeBases (history : List Node) (first : ℕ) (others : List ℕ)
   pub ascending : IsStrictlyIncreasing bases
   pub those : (p : ℕ) → Contains bases p ↔ IsMergeBase history first others p
 
--- What a search for them visits.
+-- What a search for them visits that orders commits by their ranks.
 
 -- p is reached
 abbrev pub IsReached : List Node → ℕ → List ℕ → ℕ → Type 0
@@ -43,9 +43,9 @@ IsReached history first others p = Reaches history first p ⊎ IsReachedFromSome
 abbrev pub IsStart : ℕ → List ℕ → ℕ → Type 0
 IsStart first others s = (s ≡ first) ⊎ Contains others s
 
--- no generation number of the commits that the search starts from is at the cap
-abbrev pub AreBelowCap : List Node → ℕ → List ℕ → Type 0
-AreBelowCap history first others = (s : ℕ) → IsStart first others s → generation_at history s < GENERATION_NUMBER_MAX
+-- no rank of the commits that the search starts from is at the cap
+abbrev pub AreBelowCap : Ranking → ℕ → List ℕ → Type 0
+AreBelowCap ranking first others = (s : ℕ) → IsStart first others s → ranking.rank s < ranking.cap
 
 -- one side alone leads to p
 abbrev pub IsOnOneSide : List Node → ℕ → List ℕ → ℕ → Type 0
@@ -56,24 +56,28 @@ abbrev pub IsAtEdge : List Node → ℕ → List ℕ → ℕ → Type 0
 IsAtEdge history first others e =
     IsStart first others e ⊎ ((c : ℕ) × IsOnOneSide history first others c × IsParent history c e)
 
--- p is reached, and its generation number is at least that of some commit at the edge
-abbrev pub IsAboveEdge : List Node → ℕ → List ℕ → ℕ → Type 0
-IsAboveEdge history first others p =
+-- p is reached, and its rank is at least that of some commit at the edge
+abbrev pub IsAboveEdge : List Node → Ranking → ℕ → List ℕ → ℕ → Type 0
+IsAboveEdge history ranking first others p =
     IsReached history first others p
-    × ((e : ℕ) × IsAtEdge history first others e × (generation_at history e ≤ generation_at history p))
+    × ((e : ℕ) × IsAtEdge history first others e × (ranking.rank e ≤ ranking.rank p))
 
 -- p has to be visited: it is on one side alone, or a merge base, or reached and at the cap
-abbrev pub HasToBeVisited : List Node → ℕ → List ℕ → ℕ → Type 0
-HasToBeVisited history first others p =
+abbrev pub HasToBeVisited : List Node → Ranking → ℕ → List ℕ → ℕ → Type 0
+HasToBeVisited history ranking first others p =
     IsOnOneSide history first others p
     ⊎ (IsMergeBase history first others p
-    ⊎ (IsReached history first others p × (GENERATION_NUMBER_MAX ≤ generation_at history p)))
+    ⊎ (IsReached history first others p × (ranking.cap ≤ ranking.rank p)))
 
--- How many commits a search for merge bases visits.
-pub record AreVisits (history : List Node) (first : ℕ) (others : List ℕ) (visits : ℕ) : Type 0 where
+-- How many commits a search for merge bases visits that orders them by these ranks.
+pub record AreVisitsBy (history : List Node) (ranking : Ranking) (first : ℕ) (others : List ℕ) (visits : ℕ) : Type 0 where
   -- no more than three times as many as are reached
   pub most : (n : ℕ) × AtLeast n (IsReached history first others) × (visits ≤ 3 * n)
   -- no fewer than have to be visited
-  pub least : AtMost visits (HasToBeVisited history first others)
+  pub least : AtMost visits (HasToBeVisited history ranking first others)
   -- below the cap each is visited once at most, and only those that are reached at or above the edge
-  pub below_cap : AreBelowCap history first others → AtLeast visits (IsAboveEdge history first others)
+  pub below_cap : AreBelowCap ranking first others → AtLeast visits (IsAboveEdge history ranking first others)
+
+-- how many it visits that orders them by their generation numbers
+abbrev pub AreVisits : List Node → ℕ → List ℕ → ℕ → Type 0
+AreVisits history first others visits = AreVisitsBy history (by_generation history) first others visits

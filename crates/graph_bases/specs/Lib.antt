@@ -1,3 +1,4 @@
+pub mod Ranks
 pub mod Bases
 pub mod Comparison
 pub mod Sheet

@@ -7,9 +7,7 @@ use Rattle.std.specs.List.Sorted.{IsStrictlyIncreasing}
 use Rattle.std.specs.BinaryHeap.{IsHeap, heap_items}
 use Rattle.std.specs.Ordering.{nat_cmp, ordering_then}
 use Rattle.std.specs.declared.cmp.Ordering.{Ordering}
-use Rattle.graph_walks.specs.declared.TheConstants.{GENERATION_NUMBER_MAX}
-use Rattle.graph_walks.specs.History.{Node, IsParent, generation_at}
-use Rattle.graph_walks.specs.Walks.{CountWalks}
+use Rattle.graph_walks.specs.History.{Node, IsParent}
 use Rattle.graph_format.specs.Parents.{extra_edge_of}
 use Rattle.graph_format.specs.declared.Position.{Position}
 use Rattle.graph_format.specs.declared.parents.ExtraEdge.TheVariants as extra
@@ -21,6 +19,7 @@ use Rattle.graph_bases.specs.Paint.{is_on_one_side, is_visited, IsSo}
 use Rattle.graph_bases.specs.Paint.{first_leads, others_lead, is_stale, is_painted, is_ahead, is_behind, is_base, passed}
 use Rattle.graph_bases.specs.Paint.{known, unknown}
 use Rattle.graph_bases.specs.Paint.{paint_at, coat_at, is_queued, Grows, IsCounted, IsPaint}
+use Rattle.graph_bases.specs.Ranks.{Ranking, FallsAlongParents}
 use Rattle.graph_bases.specs.Trails.{trail_at, trail_in}
 use Rattle.graph_bases.specs.declared.paint.Coat.{Coat}
 use Rattle.graph_bases.specs.declared.paint.Paint.{Paint}
@@ -39,13 +38,13 @@ pub record IsSpreadBut (history : List Node) (start : ℕ) (starts : List ℕ) (
   pub passes : (p q : ℕ) → ¬ (p ≡ one) → is_queued coats p ≡ false → IsParent history p q
       → Grows (passed (paint_at coats p)) (paint_at coats q)
 
--- the order of the queue, whose entries are a generation number and a position each
+-- the order of the queue, whose entries are a rank and a position each
 abbrev pub entry_cmp : ℕ × ℕ → ℕ × ℕ → Ordering
 entry_cmp x y = ordering_then (nat_cmp x.0 y.0) (nat_cmp x.1 y.1)
 
--- an entry has the generation number of its commit
-abbrev pub IsNumbered : List Node → ℕ × ℕ → Type 0
-IsNumbered history e = e.0 ≡ generation_at history e.1
+-- an entry has the rank of its commit
+abbrev pub IsRanked : Ranking → ℕ × ℕ → Type 0
+IsRanked ranking e = e.0 ≡ ranking.rank e.1
 
 -- The queue, among so many commits, has each that is marked as queued.
 pub record IsWaiting (commits : ℕ) (coats : List Coat) (queue : List (ℕ × ℕ)) : Type 0 where
@@ -54,9 +53,9 @@ pub record IsWaiting (commits : ℕ) (coats : List Coat) (queue : List (ℕ × �
   pub queued : (p : ℕ) → is_queued coats p ≡ true → (g : ℕ) × Contains queue (g, p)
   pub count : length queue ≡ count_by (λ coat. coat.queued) coats
 
--- A generation number that no queued commit is above, and no painted one below that is not queued.
-pub record IsLevel (history : List Node) (coats : List Coat) (queue : List (ℕ × ℕ)) (level : ℕ) : Type 0 where
-  pub above : (p : ℕ) → is_queued coats p ≡ false → is_painted (paint_at coats p) ≡ true → level ≤ generation_at history p
+-- A rank that no queued commit is above, and no painted one below that is not queued.
+pub record IsLevel (ranking : Ranking) (coats : List Coat) (queue : List (ℕ × ℕ)) (level : ℕ) : Type 0 where
+  pub above : (p : ℕ) → is_queued coats p ≡ false → is_painted (paint_at coats p) ≡ true → level ≤ ranking.rank p
   pub below : All (λ e. e.0 ≤ level) queue
 
 -- A queue to which a commit was added, or that had it.
@@ -67,10 +66,10 @@ pub record Joins (p : ℕ) (old new : List (ℕ × ℕ)) : Type 0 where
   pub keeps : (e : ℕ × ℕ) → Contains old e → Contains new e
   pub longer : length new ≤ length old + 1
 
--- It was added with its generation number.
-pub record JoinsNumbered (history : List Node) (p : ℕ) (old new : List (ℕ × ℕ)) : Type 0 where
-  pub numbered : All (IsNumbered history) old → All (IsNumbered history) new
-  pub below : (level : ℕ) → generation_at history p ≤ level → All (λ e. e.0 ≤ level) old → All (λ e. e.0 ≤ level) new
+-- It was added with its rank.
+pub record JoinsRanked (ranking : Ranking) (p : ℕ) (old new : List (ℕ × ℕ)) : Type 0 where
+  pub ranked : All (IsRanked ranking) old → All (IsRanked ranking) new
+  pub below : (level : ℕ) → ranking.rank p ≤ level → All (λ e. e.0 ≤ level) old → All (λ e. e.0 ≤ level) new
 
 -- The coats after paint was added to one commit.
 pub record Adds (p : ℕ) (paint : Paint) (old new : List Coat) : Type 0 where
@@ -88,12 +87,12 @@ pub record AreCandidates (coats : List Coat) (candidates : List ℕ) : Type 0 wh
 
 -- The painting may stop: all that are queued are stale, and stand below the cap and no higher than those that are painted
 -- and not queued.
-pub record IsDone (history : List Node) (coats : List Coat) : Type 0 where
+pub record IsDone (ranking : Ranking) (coats : List Coat) : Type 0 where
   pub level : ℕ
-  pub above : (p : ℕ) → is_queued coats p ≡ false → is_painted (paint_at coats p) ≡ true → level ≤ generation_at history p
+  pub above : (p : ℕ) → is_queued coats p ≡ false → is_painted (paint_at coats p) ≡ true → level ≤ ranking.rank p
   pub queued : (p : ℕ) → is_queued coats p ≡ true → is_stale (paint_at coats p) ≡ true
-  pub below : (p : ℕ) → is_queued coats p ≡ true → generation_at history p ≤ level
-  pub uncapped : (p : ℕ) → is_queued coats p ≡ true → generation_at history p < GENERATION_NUMBER_MAX
+  pub below : (p : ℕ) → is_queued coats p ≡ true → ranking.rank p ≤ level
+  pub uncapped : (p : ℕ) → is_queued coats p ≡ true → ranking.rank p < ranking.cap
 
 -- e is a commit that the painting starts from, or a parent of one that was visited, to which one side alone leads as far as is
 -- known
@@ -103,12 +102,13 @@ IsKnownEdge history start starts coats e =
     ⊎ ((c : ℕ) × (is_queued coats c ≡ false) × (is_on_one_side (paint_at coats c) ≡ true) × IsParent history c e)
 
 -- What was visited, where no commit that the painting starts from is at the cap.
-pub record IsVisiting (history : List Node) (start : ℕ) (starts : List ℕ) (coats : List Coat) (visits : ℕ) : Type 0 where
+pub record IsVisiting (history : List Node) (ranking : Ranking) (start : ℕ) (starts : List ℕ) (coats : List Coat) (visits : ℕ)
+    : Type 0 where
   pub painted : (p : ℕ) → is_queued coats p ≡ true → is_painted (paint_at coats p) ≡ true
   pub edge : (p : ℕ) → is_painted (paint_at coats p) ≡ true → is_stale (paint_at coats p) ≡ false
       → IsKnownEdge history start starts coats p
   pub above : (p : ℕ) → is_queued coats p ≡ false → is_painted (paint_at coats p) ≡ true
-      → (e : ℕ) × IsKnownEdge history start starts coats e × (generation_at history e ≤ generation_at history p)
+      → (e : ℕ) × IsKnownEdge history start starts coats e × (ranking.rank e ≤ ranking.rank p)
   pub count : visits ≡ count_by is_visited coats
 
 -- How many commits were visited: each that was taken from the queue and is not there again, and none more often than it has come
@@ -130,20 +130,20 @@ pub record IsPainting {T : Type 0} (count : ℕ) (s : Painting T) : Type 0 where
   pub candidates : AreCandidates s.coats.all s.candidates.items
   pub visits : IsVisitCount s.coats.all s.visits
 
--- What it knows is so in this history.
-pub record IsPaintingOf {T : Type 0} (history : List Node) (s : Painting T) : Type 0 where
+-- What it knows is so in this history, with these ranks.
+pub record IsPaintingOf {T : Type 0} (history : List Node) (ranking : Ranking) (s : Painting T) : Type 0 where
   pub paint : IsPaint history s.first.0 (numbers_of s.others.now) s.coats.all
-  pub numbered : All (IsNumbered history) (heap_items s.queue)
-  pub visiting : CountWalks history → AreBelowCap history s.first.0 (numbers_of s.others.now)
-      → IsVisiting history s.first.0 (numbers_of s.others.now) s.coats.all s.visits
+  pub ranked : All (IsRanked ranking) (heap_items s.queue)
+  pub visiting : FallsAlongParents history ranking → AreBelowCap ranking s.first.0 (numbers_of s.others.now)
+      → IsVisiting history ranking s.first.0 (numbers_of s.others.now) s.coats.all s.visits
 
 -- Paint that may be added to a commit.
-pub record MayAdd {T : Type 0} (history : List Node) (s : Painting T) (p : ℕ) (paint : Paint) : Type 0 where
-  pub painting : IsPaintingOf history s
+pub record MayAdd {T : Type 0} (history : List Node) (ranking : Ranking) (s : Painting T) (p : ℕ) (paint : Paint) : Type 0 where
+  pub painting : IsPaintingOf history ranking s
   pub so : IsSo history s.first.0 (numbers_of s.others.now) p paint
-  pub waits : CountWalks history → AreBelowCap history s.first.0 (numbers_of s.others.now)
+  pub waits : FallsAlongParents history ranking → AreBelowCap ranking s.first.0 (numbers_of s.others.now)
       → is_painted (paint_at s.coats.all p) ≡ true → is_queued s.coats.all p ≡ true
-  pub edge : CountWalks history → AreBelowCap history s.first.0 (numbers_of s.others.now) → is_stale paint ≡ false
+  pub edge : FallsAlongParents history ranking → AreBelowCap ranking s.first.0 (numbers_of s.others.now) → is_stale paint ≡ false
       → IsKnownEdge history s.first.0 (numbers_of s.others.now) s.coats.all p
 
 -- Of an extra edge list: each word was passed with no more paint than the commit that it names has, and, unless it names the
@@ -157,28 +157,29 @@ pub record IsPassed (coats : List Coat) (list : List ℕ) (trail : List Paint) :
 abbrev pub ArePassed : {T : Type 0} → (Told → Type 0) → Painting T → Type 0
 ArePassed says s = (t : Told) → says t → (l : ℕ) → IsPassed s.coats.all (t.lists l) (trail_in s.coats.trails.layers.items l)
 
--- The order in which commits are visited is that of the generation numbers: where these are right, a commit that was taken from
--- the queue stands above all that are there, and its parents are below it, or at the cap as it is.
-pub record PassesInOrder {T : Type 0} (history : List Node) (s : Painting T) (commit : ℕ) (paint : Paint) : Type 0 where
-  pub uncapped : AreBelowCap history s.first.0 (numbers_of s.others.now) → generation_at history commit < GENERATION_NUMBER_MAX
-  pub painted : AreBelowCap history s.first.0 (numbers_of s.others.now) → is_painted paint ≡ true
-  pub own : AreBelowCap history s.first.0 (numbers_of s.others.now) → is_queued s.coats.all commit ≡ false
-  pub level : IsLevel history s.coats.all (heap_items s.queue) (generation_at history commit)
+-- The order in which commits are visited is that of the ranks: where these fall along parents, a commit that was taken from the
+-- queue stands above all that are there, and its parents are below it, or at the cap as it is.
+pub record PassesInOrder {T : Type 0} (ranking : Ranking) (s : Painting T) (commit : ℕ) (paint : Paint) : Type 0 where
+  pub uncapped : AreBelowCap ranking s.first.0 (numbers_of s.others.now) → ranking.rank commit < ranking.cap
+  pub painted : AreBelowCap ranking s.first.0 (numbers_of s.others.now) → is_painted paint ≡ true
+  pub own : AreBelowCap ranking s.first.0 (numbers_of s.others.now) → is_queued s.coats.all commit ≡ false
+  pub level : IsLevel ranking s.coats.all (heap_items s.queue) (ranking.rank commit)
 
 -- A commit that was taken from the queue passes on what this paint says of it in a history.
-pub record PassesPaintOf {T : Type 0} (history : List Node) (s : Painting T) (commit : ℕ) (paint : Paint) : Type 0 where
-  pub painting : IsPaintingOf history s
+pub record PassesPaintOf {T : Type 0} (history : List Node) (ranking : Ranking) (s : Painting T) (commit : ℕ) (paint : Paint)
+    : Type 0 where
+  pub painting : IsPaintingOf history ranking s
   pub so : IsSo history s.first.0 (numbers_of s.others.now) commit paint
   pub spread : IsSpreadBut history s.first.0 (numbers_of s.others.now) s.coats.all commit
-  pub in_order : CountWalks history → PassesInOrder history s commit paint
+  pub in_order : FallsAlongParents history ranking → PassesInOrder ranking s commit paint
 
 -- so in each that a source of so many commits says
-pub record PassesPaint {T : Type 0} (count : ℕ) (says : Told → Type 0) (s : Painting T) (commit : ℕ) (paint : Paint)
-    : Type 0 where
+pub record PassesPaint {T : Type 0} (count : ℕ) (says : Told → Type 0) (ranking : Told → Ranking) (s : Painting T) (commit : ℕ)
+    (paint : Paint) : Type 0 where
   pub painting : IsPainting count s
   pub within : commit < count
   pub same : is_queued s.coats.all commit ≡ false → paint_at s.coats.all commit ≡ paint
-  pub told : (t : Told) → says t → PassesPaintOf t.history s commit paint
+  pub told : (t : Told) → says t → PassesPaintOf t.history (ranking t) s commit paint
 
 -- Paint was passed on.
 pub record PassesOn {T : Type 0} (old new : Painting T) : Type 0 where

@@ -1,9 +1,10 @@
 //! Merge bases, over any source of commits.
 //!
 //! An [`AnyComparer`] says which merge bases some commits have, and how far they have come apart: a
-//! [`Comparison`] is both. It visits commits with the highest generation numbers first. Where the
-//! numbers that a source says are right, its answers are exact. Where they are not, it ends all the
-//! same, and each base that it answers is a common ancestor.
+//! [`Comparison`] is both. It visits commits with the highest generation numbers first, or those
+//! with the highest corrected dates, or any other [`Ranks`]. Where these fall along parents, its
+//! answers are exact. Where they do not, it ends all the same, and each base that it answers is a
+//! common ancestor.
 #![tactic(auto)]
 
 mod any;
@@ -12,6 +13,7 @@ pub mod law;
 mod paint;
 mod painting;
 mod passing;
+mod ranks;
 mod sheet;
 mod tables;
 mod trails;
@@ -19,5 +21,6 @@ mod trails;
 pub use any::{AnyComparer, CoatComparer, FewComparer};
 pub use bases::{Bases, Comparison, Divergence};
 pub use paint::{Coat, Paint};
+pub use ranks::{GenerationNumbers, Ranks};
 pub use sheet::CoatTable;
 pub use tables::{AllCoats, FewCoats};

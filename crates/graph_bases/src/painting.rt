@@ -4,28 +4,27 @@ ghost use Rattle.std.specs.Prelude.{◌+◌, ◌*◌, ◌^◌, ◌⊎◌, cond, 
 ghost use Rattle.std.specs.Prelude.{◌≡◌, ◌<◌, ◌≤◌, ◌++◌, ◌∷◌, if◌then◌else◌, ℕ, List, [], All};
 ghost use Rattle.std.specs.Prelude.{IsPermutation, length, count_by, OnOk, IfOk};
 ghost use Rattle.std.specs.BinaryHeap.{IsHeap, heap_items};
-ghost use Rattle.graph_walks.specs.History.{Node, generation_at};
-ghost use Rattle.graph_walks.specs.Walks.{CountWalks};
+ghost use Rattle.graph_walks.specs.History.{Node};
 ghost use Rattle.commit_search.specs.Source.{Told};
 ghost use Rattle.commit_search.specs.Positions.{numbers_of};
-ghost use Rattle.graph_bases.specs.Bases.{AreBelowCap, AreVisits};
+ghost use Rattle.graph_bases.specs.Bases.{AreBelowCap, AreVisitsBy};
 ghost use Rattle.graph_bases.specs.Painting.{IsVisitCount, IsVisiting};
 ghost use Rattle.graph_bases.specs.Paint.{is_queued};
 ghost use Rattle.graph_bases.specs.Paint.{is_ahead, is_behind, is_base, bare, coat_at};
 ghost use Rattle.graph_bases.specs.Paint.{IsCounted, IsPaint, AreIdle};
-ghost use Rattle.graph_bases.specs.Painting.{IsSpread, IsLevel, Joins, JoinsNumbered, Adds};
+ghost use Rattle.graph_bases.specs.Painting.{IsSpread, IsLevel, Joins, JoinsRanked, Adds};
 ghost use Rattle.graph_bases.specs.Painting.{ArePassed, IsPassed, MayAdd, IsPaintingOf};
 ghost use Rattle.graph_bases.specs.Painting.{AreCandidates, IsDone, IsPainting, IsPainted};
 ghost use Rattle.graph_bases.specs.Painting.{AreBases, entry_cmp, work};
+ghost use Rattle.graph_bases.specs.Ranks.{FallsAlongParents, Ranking};
 ghost use Rattle.graph_bases.specs.Trails.{trail_in};
 
 use crate::bases::Divergence;
 use crate::paint::{Coat, Coats, Paint};
+use crate::ranks::Ranks;
 use crate::sheet::CoatTable;
 use commit_search::CommitSource;
 use graph_format::Position;
-use graph_walks::GENERATION_NUMBER_MAX;
-use graph_walks::law::{generations_fall_along_walks, generations_never_rise_along_walks};
 use std::alloc::{AllocError, Global};
 use std::collections::BinaryHeap;
 
@@ -35,9 +34,9 @@ pub(crate) struct Painting<'p, T: CoatTable> {
     first: Position,
     others: &'p [Position],
     pub(crate) coats: Coats<T>,
-    /// The commits whose parents have not heard all that is known of them: of each its generation
-    /// number and its position.
-    queue: BinaryHeap<(u32, u32)>,
+    /// The commits whose parents have not heard all that is known of them: of each its rank and its
+    /// position.
+    queue: BinaryHeap<(u64, u32)>,
     /// The positions of commits to which both sides lead: each merge base is one of them. Others
     /// turn out to be ancestors of another.
     candidates: Vec<u32>,
@@ -58,8 +57,8 @@ impl<'p, T: CoatTable> Painting<'p, T> {
         ensures first { result.first ≡ first }
         ensures others { result.others.now ≡ others.now }
         ensures painting { IsPainting (length coats.all) result }
-        ensures told { (history : List Node) → length history ≡ length coats.all
-            → IsPaintingOf history result }
+        ensures told { (history : List Node) (ranking : Ranking)
+            → length history ≡ length coats.all → IsPaintingOf history ranking result }
         ensures lists { (t : Told) (l : ℕ) → IsPassed result.coats.all (t.lists l)
             (trail_in result.coats.trails.layers.items l) }
         ensures bare { (p : ℕ) → coat_at result.coats.all p ≡ bare }
@@ -76,9 +75,10 @@ impl<'p, T: CoatTable> Painting<'p, T> {
     }
 
     /// Puts a commit into the queue, unless it is there.
-    fn enqueue<S: CommitSource>(
+    fn enqueue<S: CommitSource, R: Ranks<S>>(
         &mut self,
         commits: &mut S,
+        ranks: &R,
         commit: Position,
         is_there: bool,
     ) -> Result<(), S::Error>
@@ -97,8 +97,8 @@ impl<'p, T: CoatTable> Painting<'p, T> {
             + cond (is_queued self.old.coats.all commit.0) 0 1) }
         ensures joins { OnOk result
             (Joins commit.0 (heap_items self.old.queue) (heap_items self.new.queue)) }
-        ensures numbered { OnOk result ((t : Told) → S.says commits.new t
-            → JoinsNumbered t.history commit.0 (heap_items self.old.queue)
+        ensures ranked { OnOk result ((t : Told) → S.says commits.new t
+            → JoinsRanked (R.ranking ranks.now t) commit.0 (heap_items self.old.queue)
             (heap_items self.new.queue)) }
         ensures failed { IfErr result (λ e. S.may_fail (S.known commits.old) e
             ⊎ S.Error.from_gives alloc_error e) }
@@ -106,8 +106,8 @@ impl<'p, T: CoatTable> Painting<'p, T> {
         if is_there {
             return Ok(());
         }
-        let generation = commits.generation_number(commit)?;
-        push_entry(&mut self.queue, (generation, commit.0))?;
+        let rank = ranks.rank(commits, commit)?;
+        push_entry(&mut self.queue, (rank, commit.0))?;
         Ok(())
     }
 
@@ -129,16 +129,17 @@ impl<'p, T: CoatTable> Painting<'p, T> {
     }
 
     /// Adds paint to a commit, and puts it into the queue where that says more than was known.
-    pub(crate) fn add<S: CommitSource>(
+    pub(crate) fn add<S: CommitSource, R: Ranks<S>>(
         &mut self,
         commits: &mut S,
+        ranks: &R,
         commit: Position,
         paint: Paint,
     ) -> Result<(), S::Error>
         requires painting { IsPainting (S.count (S.known commits.old)) self.old }
         requires within { commit.0 < S.count (S.known commits.old) }
         requires told { (t : Told) → S.says commits.old t
-            → MayAdd t.history self.old commit.0 paint }
+            → MayAdd t.history (R.ranking ranks.now t) self.old commit.0 paint }
         ensures known { S.known commits.new ≡ S.known commits.old }
         ensures kept { (t : Told) → S.says commits.new t → S.says commits.old t }
         ensures first { self.new.first ≡ self.old.first }
@@ -146,13 +147,15 @@ impl<'p, T: CoatTable> Painting<'p, T> {
         ensures trails { self.new.coats.trails ≡ self.old.coats.trails }
         ensures painting { OnOk result (IsPainting (S.count (S.known commits.old)) self.new) }
         ensures told { OnOk result ((t : Told) → S.says commits.new t
-            → IsPaintingOf t.history self.new) }
+            → IsPaintingOf t.history (R.ranking ranks.now t) self.new) }
         ensures adds { OnOk result (Adds commit.0 paint self.old.coats.all
             self.new.coats.all) }
         ensures level { OnOk result ((t : Told) (level : ℕ) → S.says commits.new t
-            → generation_at t.history commit.0 ≤ level
-            → IsLevel t.history self.old.coats.all (heap_items self.old.queue) level
-            → IsLevel t.history self.new.coats.all (heap_items self.new.queue) level) }
+            → (R.ranking ranks.now t).rank commit.0 ≤ level
+            → IsLevel (R.ranking ranks.now t) self.old.coats.all
+            (heap_items self.old.queue) level
+            → IsLevel (R.ranking ranks.now t) self.new.coats.all
+            (heap_items self.new.queue) level) }
         ensures work { OnOk result (work self.new.coats.all (heap_items self.new.queue)
             ≤ work self.old.coats.all (heap_items self.old.queue)) }
         ensures failed { IfErr result (λ e. S.may_fail (S.known commits.old) e
@@ -163,22 +166,28 @@ impl<'p, T: CoatTable> Painting<'p, T> {
             return Ok(());
         }
         let paint = known.paint.join(paint);
-        self.enqueue(commits, commit, known.queued)?;
+        self.enqueue(commits, ranks, commit, known.queued)?;
         self.add_candidate(commit, paint)?;
         let queued = true;
         self.coats.set(commit, known, Coat { paint, queued })?;
         Ok(())
     }
 
-    /// Visits commits, those with the highest generation numbers first, until none that is queued
-    /// can lead to a base.
-    fn run<S: CommitSource>(&mut self, commits: &mut S) -> Result<(), S::Error>
+    /// Visits commits, those with the highest ranks first, until none that is queued can lead to a
+    /// base.
+    fn run<S: CommitSource, R: Ranks<S>>(
+        &mut self,
+        commits: &mut S,
+        ranks: &R,
+    ) -> Result<(), S::Error>
         requires painting { IsPainting (S.count (S.known commits.old)) self.old }
-        requires told { (t : Told) → S.says commits.old t → IsPaintingOf t.history self.old }
+        requires told { (t : Told) → S.says commits.old t
+            → IsPaintingOf t.history (R.ranking ranks.now t) self.old }
         requires spread { (t : Told) → S.says commits.old t → IsSpread t.history self.old.first.0
             (numbers_of self.old.others.now) self.old.coats.all }
-        requires level { (t : Told) → S.says commits.old t → CountWalks t.history → (level : ℕ)
-            × IsLevel t.history self.old.coats.all (heap_items self.old.queue) level }
+        requires level { (t : Told) → S.says commits.old t
+            → FallsAlongParents t.history (R.ranking ranks.now t) → (level : ℕ)
+            × IsLevel (R.ranking ranks.now t) self.old.coats.all (heap_items self.old.queue) level }
         requires lists { ArePassed (S.says commits.old) self.old }
         ensures known { S.known commits.new ≡ S.known commits.old }
         ensures kept { (t : Told) → S.says commits.new t → S.says commits.old t }
@@ -196,18 +205,20 @@ impl<'p, T: CoatTable> Painting<'p, T> {
             → IsSpread t.history self.old.first.0 (numbers_of self.old.others.now)
             self.new.coats.all) }
         ensures count { OnOk result (IsVisitCount self.new.coats.all self.new.visits) }
-        ensures visiting { OnOk result ((t : Told) → S.says commits.new t → CountWalks t.history
-            → AreBelowCap t.history self.old.first.0 (numbers_of self.old.others.now)
-            → IsVisiting t.history self.old.first.0 (numbers_of self.old.others.now)
-            self.new.coats.all self.new.visits) }
-        ensures done { OnOk result ((t : Told) → S.says commits.new t → CountWalks t.history
-            → IsDone t.history self.new.coats.all) }
+        ensures visiting { OnOk result ((t : Told) → S.says commits.new t
+            → FallsAlongParents t.history (R.ranking ranks.now t)
+            → AreBelowCap (R.ranking ranks.now t) self.old.first.0 (numbers_of self.old.others.now)
+            → IsVisiting t.history (R.ranking ranks.now t) self.old.first.0
+            (numbers_of self.old.others.now) self.new.coats.all self.new.visits) }
+        ensures done { OnOk result ((t : Told) → S.says commits.new t
+            → FallsAlongParents t.history (R.ranking ranks.now t)
+            → IsDone (R.ranking ranks.now t) self.new.coats.all) }
         ensures failed { IfErr result (λ e. S.may_fail (S.known commits.old) e
             ⊎ S.Error.from_gives alloc_error e) }
     {
-        generations_never_rise_along_walks();
+        let cap = ranks.cap();
         while let Some(next) = self.queue.pop() {
-            let is_below_cap = next.0 < GENERATION_NUMBER_MAX;
+            let is_below_cap = next.0 < cap;
             if self.coats.fresh == 0 && is_below_cap {
                 return Ok(());
             }
@@ -217,7 +228,7 @@ impl<'p, T: CoatTable> Painting<'p, T> {
             let queued = false;
             self.coats.set(commit, known, Coat { paint, queued })?;
             self.visits = self.visits.saturating_add(1);
-            self.visit(commits, commit, paint)?;
+            self.visit(commits, ranks, commit, paint)?;
         }
         Ok(())
     }
@@ -272,10 +283,11 @@ impl<'p, T: CoatTable> Painting<'p, T> {
 }
 
 /// Paints commits from one of them and some others.
-pub(crate) fn paint_from<'p, T: CoatTable, S: CommitSource>(
+pub(crate) fn paint_from<'p, T: CoatTable, S: CommitSource, R: Ranks<S>>(
     alloc: Global,
     coats: Coats<T>,
     commits: &mut S,
+    ranks: &R,
     first: Position,
     others: &'p [Position],
 ) -> Result<Painting<'p, T>, S::Error>
@@ -290,28 +302,28 @@ pub(crate) fn paint_from<'p, T: CoatTable, S: CommitSource>(
     ensures paint { IfOk result (λ s. (t : Told) → S.says commits.new t
         → IsPaint t.history first.0 (numbers_of others.now) s.coats.all) }
     ensures most { IfOk result (λ s. s.visits ≤ 3 * S.count (S.known commits.old)) }
-    ensures painted { IfOk result (λ s. (t : Told) → S.says commits.new t → CountWalks t.history
+    ensures painted { IfOk result (λ s. (t : Told) → S.says commits.new t
+        → FallsAlongParents t.history (R.ranking ranks.now t)
         → IsPainted t.history first.0 (numbers_of others.now) s.coats.all) }
-    ensures visits { IfOk result (λ s. (t : Told) → S.says commits.new t → CountWalks t.history
-        → AreVisits t.history first.0 (numbers_of others.now) s.visits) }
+    ensures visits { IfOk result (λ s. (t : Told) → S.says commits.new t
+        → FallsAlongParents t.history (R.ranking ranks.now t)
+        → AreVisitsBy t.history (R.ranking ranks.now t) first.0 (numbers_of others.now) s.visits) }
     ensures failed { IfErr result (λ e. S.may_fail (S.known commits.old) e
         ⊎ S.Error.from_gives alloc_error e) }
 {
-    generations_never_rise_along_walks();
-    generations_fall_along_walks();
     // The contract of `num_commits` says how many commits the source tells of.
     let _commits = commits.num_commits();
     let mut painting = Painting::new(alloc, coats, first, others);
-    painting.add(commits, first, Paint::First)?;
+    painting.add(commits, ranks, first, Paint::First)?;
     for other in others {
-        painting.add(commits, *other, Paint::Others)?;
+        painting.add(commits, ranks, *other, Paint::Others)?;
     }
-    painting.run(commits)?;
+    painting.run(commits, ranks)?;
     Ok(painting)
 }
 
 /// Adds an entry to a queue.
-fn push_entry(queue: &mut BinaryHeap<(u32, u32)>, entry: (u32, u32)) -> Result<(), AllocError>
+fn push_entry(queue: &mut BinaryHeap<(u64, u32)>, entry: (u64, u32)) -> Result<(), AllocError>
     ensures order { OnOk result
         (IsHeap entry_cmp (heap_items queue.old) → IsHeap entry_cmp (heap_items queue.new)) }
     ensures moved { OnOk result

@@ -3,35 +3,35 @@
 ghost use Rattle.std.specs.Prelude.{◌≡◌, ◌⊎◌, ◌<◌, ◌≤◌, ℕ, Contains, OnOk};
 ghost use Rattle.std.specs.Prelude.{IfErr, alloc_error};
 ghost use Rattle.std.specs.BinaryHeap.{heap_items};
-ghost use Rattle.graph_walks.specs.History.{IsParent, generation_at};
-ghost use Rattle.graph_walks.specs.Walks.{CountWalks};
+ghost use Rattle.graph_walks.specs.History.{IsParent};
 ghost use Rattle.commit_search.specs.EdgeLists.{named_from};
 ghost use Rattle.commit_search.specs.Source.{Told, IsFieldRead, IsListTrue, FieldNames};
 ghost use Rattle.commit_search.specs.Positions.{numbers_of};
 ghost use Rattle.graph_bases.specs.Paint.{paint_at, passed, Grows};
 ghost use Rattle.graph_bases.specs.Painting.{IsSpread, IsLevel, IsPainting, IsPaintingOf, work};
 ghost use Rattle.graph_bases.specs.Painting.{ArePassed, PassesPaint, PassesOn};
+ghost use Rattle.graph_bases.specs.Ranks.{FallsAlongParents};
 
 use crate::paint::Paint;
 use crate::painting::Painting;
+use crate::ranks::Ranks;
 use crate::sheet::CoatTable;
 use commit_search::CommitSource;
 use commit_search::edges::parent_of;
 use graph_format::Position;
 use graph_format::parents::{ExtraEdge, ParentEdge};
-use graph_walks::GENERATION_NUMBER_MAX;
-use graph_walks::law::{generations_fall_along_walks, generations_never_rise_along_walks};
 
 impl<'p, T: CoatTable> Painting<'p, T> {
     /// Passes on what is known of a commit that was taken from the queue.
-    pub(crate) fn visit<S: CommitSource>(
+    pub(crate) fn visit<S: CommitSource, R: Ranks<S>>(
         &mut self,
         commits: &mut S,
+        ranks: &R,
         commit: Position,
         paint: Paint,
     ) -> Result<(), S::Error>
-        requires passes { PassesPaint (S.count (S.known commits.old)) (S.says commits.old) self.old
-            commit.0 paint }
+        requires passes { PassesPaint (S.count (S.known commits.old)) (S.says commits.old)
+            (R.ranking ranks.now) self.old commit.0 paint }
         requires lists { ArePassed (S.says commits.old) self.old }
         ensures known { S.known commits.new ≡ S.known commits.old }
         ensures kept { (t : Told) → S.says commits.new t → S.says commits.old t }
@@ -39,35 +39,37 @@ impl<'p, T: CoatTable> Painting<'p, T> {
         ensures others { self.new.others.now ≡ self.old.others.now }
         ensures painting { OnOk result (IsPainting (S.count (S.known commits.old)) self.new) }
         ensures told { OnOk result ((t : Told) → S.says commits.new t
-            → IsPaintingOf t.history self.new) }
+            → IsPaintingOf t.history (R.ranking ranks.now t) self.new) }
         ensures lists { OnOk result (ArePassed (S.says commits.new) self.new) }
         ensures spread { OnOk result ((t : Told) → S.says commits.new t
             → IsSpread t.history self.old.first.0 (numbers_of self.old.others.now)
             self.new.coats.all) }
-        ensures level { OnOk result ((t : Told) → S.says commits.new t → CountWalks t.history
-            → IsLevel t.history self.new.coats.all (heap_items self.new.queue)
-            (generation_at t.history commit.0)) }
+        ensures level { OnOk result ((t : Told) → S.says commits.new t
+            → FallsAlongParents t.history (R.ranking ranks.now t)
+            → IsLevel (R.ranking ranks.now t) self.new.coats.all (heap_items self.new.queue)
+            ((R.ranking ranks.now t).rank commit.0)) }
         ensures work { OnOk result (work self.new.coats.all (heap_items self.new.queue)
             ≤ work self.old.coats.all (heap_items self.old.queue)) }
         ensures failed { IfErr result (λ e. S.may_fail (S.known commits.old) e
             ⊎ S.Error.from_gives alloc_error e) }
     {
         let fields = commits.parent_fields(commit)?;
-        self.visit_field(commits, fields.0, commit, paint)?;
-        self.visit_field(commits, fields.1, commit, paint)?;
+        self.visit_field(commits, ranks, fields.0, commit, paint)?;
+        self.visit_field(commits, ranks, fields.1, commit, paint)?;
         Ok(())
     }
 
     /// Passes on what is known of a commit to the parents that a parent field of it names.
-    fn visit_field<S: CommitSource>(
+    fn visit_field<S: CommitSource, R: Ranks<S>>(
         &mut self,
         commits: &mut S,
+        ranks: &R,
         field: ParentEdge,
         commit: Position,
         paint: Paint,
     ) -> Result<(), S::Error>
-        requires passes { PassesPaint (S.count (S.known commits.old)) (S.says commits.old) self.old
-            commit.0 paint }
+        requires passes { PassesPaint (S.count (S.known commits.old)) (S.says commits.old)
+            (R.ranking ranks.now) self.old commit.0 paint }
         requires lists { ArePassed (S.says commits.old) self.old }
         requires field { let k = S.known commits.old in
             IsFieldRead (S.count k) (S.is_listed k) (S.lies k) (S.says commits.old) commit.0
@@ -77,7 +79,7 @@ impl<'p, T: CoatTable> Painting<'p, T> {
         ensures first { self.new.first ≡ self.old.first }
         ensures others { self.new.others.now ≡ self.old.others.now }
         ensures passes { OnOk result (PassesPaint (S.count (S.known commits.old))
-            (S.says commits.new) self.new commit.0 paint) }
+            (S.says commits.new) (R.ranking ranks.now) self.new commit.0 paint) }
         ensures lists { OnOk result (ArePassed (S.says commits.new) self.new) }
         ensures on { OnOk result (PassesOn self.old self.new) }
         ensures named { OnOk result ((t : Told) (q : ℕ) → S.says commits.new t
@@ -89,11 +91,11 @@ impl<'p, T: CoatTable> Painting<'p, T> {
         match field {
             ParentEdge::None => Ok(()),
             ParentEdge::GraphPosition(parent) => {
-                self.pass(commits, commit, paint, parent)?;
+                self.pass(commits, ranks, commit, paint, parent)?;
                 Ok(())
             }
             ParentEdge::ExtraEdgeIndex(index) => {
-                self.visit_list(commits, index, commit, paint)?;
+                self.visit_list(commits, ranks, index, commit, paint)?;
                 Ok(())
             }
         }
@@ -106,15 +108,16 @@ impl<'p, T: CoatTable> Painting<'p, T> {
     /// Few commits have such a list. This stays a call of its own, so that the others pay nothing
     /// for it.
     #[inline(never)]
-    fn visit_list<S: CommitSource>(
+    fn visit_list<S: CommitSource, R: Ranks<S>>(
         &mut self,
         commits: &mut S,
+        ranks: &R,
         index: u32,
         commit: Position,
         paint: Paint,
     ) -> Result<(), S::Error>
-        requires passes { PassesPaint (S.count (S.known commits.old)) (S.says commits.old) self.old
-            commit.0 paint }
+        requires passes { PassesPaint (S.count (S.known commits.old)) (S.says commits.old)
+            (R.ranking ranks.now) self.old commit.0 paint }
         requires lists { ArePassed (S.says commits.old) self.old }
         requires listed { S.is_listed (S.known commits.old) commit.0 index }
         requires told { (t : Told) → S.says commits.old t → (l : ℕ)
@@ -124,7 +127,7 @@ impl<'p, T: CoatTable> Painting<'p, T> {
         ensures first { self.new.first ≡ self.old.first }
         ensures others { self.new.others.now ≡ self.old.others.now }
         ensures passes { OnOk result (PassesPaint (S.count (S.known commits.old))
-            (S.says commits.new) self.new commit.0 paint) }
+            (S.says commits.new) (R.ranking ranks.now) self.new commit.0 paint) }
         ensures lists { OnOk result (ArePassed (S.says commits.new) self.new) }
         ensures on { OnOk result (PassesOn self.old self.new) }
         ensures named { OnOk result ((t : Told) (q : ℕ) → S.says commits.new t
@@ -141,7 +144,7 @@ impl<'p, T: CoatTable> Painting<'p, T> {
         let mut next = index;
         while !self.coats.trails.at(layer, next).covers(passed) {
             let word = commits.listed_parent(commit, layer, next)?;
-            self.pass(commits, commit, paint, parent_of(word))?;
+            self.pass(commits, ranks, commit, paint, parent_of(word))?;
             self.coats.trails.add(layer, next, passed)?;
             match word {
                 ExtraEdge::Internal(_) => next += 1,
@@ -152,15 +155,16 @@ impl<'p, T: CoatTable> Painting<'p, T> {
     }
 
     /// Passes on what is known of a commit to one of its parents.
-    fn pass<S: CommitSource>(
+    fn pass<S: CommitSource, R: Ranks<S>>(
         &mut self,
         commits: &mut S,
+        ranks: &R,
         commit: Position,
         paint: Paint,
         parent: Position,
     ) -> Result<(), S::Error>
-        requires passes { PassesPaint (S.count (S.known commits.old)) (S.says commits.old) self.old
-            commit.0 paint }
+        requires passes { PassesPaint (S.count (S.known commits.old)) (S.says commits.old)
+            (R.ranking ranks.now) self.old commit.0 paint }
         requires within { parent.0 < S.count (S.known commits.old) }
         requires parent { (t : Told) → S.says commits.old t
             → IsParent t.history commit.0 parent.0 }
@@ -170,16 +174,14 @@ impl<'p, T: CoatTable> Painting<'p, T> {
         ensures others { self.new.others.now ≡ self.old.others.now }
         ensures trails { self.new.coats.trails ≡ self.old.coats.trails }
         ensures passes { OnOk result (PassesPaint (S.count (S.known commits.old))
-            (S.says commits.new) self.new commit.0 paint) }
+            (S.says commits.new) (R.ranking ranks.now) self.new commit.0 paint) }
         ensures on { OnOk result (PassesOn self.old self.new) }
         ensures heard { OnOk result
             (Grows (passed paint) (paint_at self.new.coats.all parent.0)) }
         ensures failed { IfErr result (λ e. S.may_fail (S.known commits.old) e
             ⊎ S.Error.from_gives alloc_error e) }
     {
-        generations_never_rise_along_walks();
-        generations_fall_along_walks();
-        self.add(commits, parent, paint.passed())?;
+        self.add(commits, ranks, parent, paint.passed())?;
         Ok(())
     }
 }

@@ -14,16 +14,16 @@ returns-clause-common g c = λ t said.
     t.history c.args.first.0 (numbers_of c.args.others.now) (c.in_ok-painting.ensures.paint t said)
 
 pub returns-clause-exact : goal.returns-clause-exact
-returns-clause-exact g c = λ t said right.
+returns-clause-exact g c = λ t said along.
     let h = t.history in
     let a = c.args.first.0 in
     let bs = numbers_of c.args.others.now in
     let p = c.in_ok-painting.ensures in
-    let painted = p.painted t said right in
+    let painted = p.painted t said along in
     let coats = c.in_ok-painting.painting.coats.all in
     record {
       bases = bases_are h a bs coats painted (numbers_of c.in_ok-positions.positions.items) c.in_ok-positions.ensures.bases;
-      visits = rw c.visits-visits.ensures (p.visits t said right);
+      visits = rw c.visits-visits.ensures (p.visits t said along);
       ahead = ahead_number h a bs coats painted c.divergence-divergence.result.ahead c.divergence-divergence.ensures.ahead;
       behind = behind_number h a bs coats painted c.divergence-divergence.result.behind c.divergence-divergence.ensures.behind;
     }

@@ -2,12 +2,11 @@ use Rattle.std.proofs.Common.{inl, inr, refl, sym, ap, ◌≡◌, ◌<◌, lengt
 use Rattle.std.proofs.lemmas.Bool.{false≢true}
 use Rattle.std.proofs.lemmas.List.{length-map}
 use Rattle.graph_format.specs.declared.Position.{Position}
-use Rattle.graph_walks.specs.declared.TheConstants.{GENERATION_NUMBER_MAX}
-use Rattle.graph_walks.specs.Walks.{CountWalks}
 use Rattle.commit_search.specs.Source.{Told}
 use Rattle.commit_search.specs.Positions.{numbers_of}
 use Rattle.graph_bases.specs.Paint.{is_painted}
 use Rattle.graph_bases.specs.declared.paint.Coat.{Coat}
+use Rattle.graph_bases.specs.Ranks.{FallsAlongParents}
 use Rattle.graph_bases.proofs.CoatLemmas.{so_first, so_other, bare_level, begun_first, begun_more, begun_all}
 use Rattle.graph_bases.proofs.CoatLemmas.{number_at, number_contained}
 use Rattle.graph_bases.proofs.EdgeLemmas.{painted_queued, at_most_once}
@@ -37,7 +36,7 @@ add-requires-clause-told g c = λ t said.
     c.num_commits-commits.ensures.told t said ∙ c.num_commits-commits.ensures.count ∙ sym c.requires.idle.coats_len in
     let within : c.args.first.0 < length t.history = omega (arith, len, c.requires.idle.coats_len, c.requires.first) in
     record {
-      painting = p.told t.history len;
+      painting = p.told t.history (g.R.Ranks.ranking c.args.ranks.now t) len;
       so = rw p.first (so_first t.history c.args.first.0 (numbers_of s.others.now) within);
       waits = λ right below painted.
           absurd (false≢true (sym (ap (λ (m : Coat). is_painted m.paint) (p.bare c.args.first.0)) ∙ painted));
@@ -61,14 +60,14 @@ loop-other-init g c =
       begun = λ t said.
           begun_first t.history s.coats.all (heap_items s.queue) p.bare p.empty c.args.first.0
           (numbers_of c.args.others.now) c.add.new.self.coats.all c.in_ok-add.ensures.adds;
-      level = λ t said right.
+      level = λ t said along.
           (let len : length t.history ≡ length c.args.coats.all =
           c.num_commits-commits.ensures.told t (c.add.ensures.kept t said) ∙ c.num_commits-commits.ensures.count
           ∙ sym c.requires.idle.coats_len in
           let within : c.args.first.0 < length t.history = omega (arith, len, c.requires.idle.coats_len, c.requires.first) in
-          let capped = (right c.args.first.0 within).capped in
-          c.in_ok-add.ensures.level t GENERATION_NUMBER_MAX said capped
-          (bare_level t.history s.coats.all (heap_items s.queue) p.bare p.empty GENERATION_NUMBER_MAX));
+          let k = g.R.Ranks.ranking c.args.ranks.now t in
+          c.in_ok-add.ensures.level t k.cap said (along.capped c.args.first.0 within)
+          (bare_level t.history s.coats.all (heap_items s.queue) p.bare p.empty k k.cap));
     }
 
 -- the other that is next is a commit of what the source tells
@@ -103,7 +102,8 @@ add-requires-in-loop-other-clause-told g c = λ t said.
           (within g (goal.at.add-requires-in-loop-other-clause-told g c).In-loop-other t said));
       waits = rw (i.first, i.others)
           (λ right below painted.
-          painted_queued h l.painting.coats.all (heap_items l.painting.queue) GENERATION_NUMBER_MAX other.0
+          let k = g.R.Ranks.ranking c.args.ranks.now t in
+          painted_queued k l.painting.coats.all (heap_items l.painting.queue) k.cap other.0
           (i.level t said right) (below other.0 (inr start)) painted);
       edge = rw (i.first, i.others) (λ right below live. inl (inr start));
     }
@@ -129,10 +129,10 @@ loop-other-preserved g c =
           begun_more t.history c.args.first.0 (numbers_of c.args.others.now) l.other-index other.0 l.painting.coats.all
           c.add-in-loop-other.new.self.coats.all (i.begun t (add.kept t said))
           (number_at c.args.others.now l.other-index) c.in_ok-add-2.ensures.adds;
-      level = λ t said right.
+      level = λ t said along.
           (let before = add.kept t said in
-          let low = (right other.0 (within g (goal.at.loop-other-preserved g c).In-loop-other t before)).capped in
-          c.in_ok-add-2.ensures.level t GENERATION_NUMBER_MAX said low (i.level t before right));
+          let low = along.capped other.0 (within g (goal.at.loop-other-preserved g c).In-loop-other t before) in
+          c.in_ok-add-2.ensures.level t (g.R.Ranks.ranking c.args.ranks.now t).cap said low (i.level t before along));
     }
 
 pub run-requires-clause-spread : goal.run-requires-clause-spread
@@ -145,21 +145,22 @@ run-requires-clause-spread g c = λ t said.
     (omega (arith, c.loop-other-test.false, c.loop-other.auto, length-map c.args.others.now (λ (p : Position). p.0))))
 
 pub run-requires-clause-level : goal.run-requires-clause-level
-run-requires-clause-level g c = λ t said right. (GENERATION_NUMBER_MAX, c.loop-other.invariant.level t said right)
+run-requires-clause-level g c = λ t said along.
+    ((g.R.Ranks.ranking c.args.ranks.now t).cap, c.loop-other.invariant.level t said along)
 
 -- all is painted
-ended : (g : Over) (c : In_ok-run g) (t : Told) → g.S.CommitSource.says c.run.new.commits t → CountWalks t.history
-    → HasEnded t.history c.args.first.0 (numbers_of c.args.others.now) c.run.new.self.coats.all
-ended g c t said right =
-    let h = t.history in
+ended : (g : Over) (c : In_ok-run g) (t : Told) → g.S.CommitSource.says c.run.new.commits t
+    → FallsAlongParents t.history (g.R.Ranks.ranking c.args.ranks.now t)
+    → HasEnded t.history (g.R.Ranks.ranking c.args.ranks.now t) c.args.first.0 (numbers_of c.args.others.now)
+    c.run.new.self.coats.all
+ended g c t said along =
     let i = c.loop-other.invariant in
     let e = c.in_ok-run.ensures in
     record {
       paint = rw (i.first, i.others) at (e.paint t said);
       spread = rw (i.first, i.others) at (e.spread t said);
-      done = e.done t said right;
-      never_rises = λ x y. c.generations_never_rise_along_walks.ensures h x y right;
-      falls = λ x y. c.generations_fall_along_walks.ensures h x y right;
+      done = e.done t said along;
+      along = along;
     }
 
 pub returns-clause-paint : goal.returns-clause-paint

@@ -68,10 +68,10 @@ returns g c =
       };
       told = λ t said.
           (let may = r.told t (c.enqueue.ensures.kept t said) in
-          let numbered = c.in_ok-enqueue.ensures.numbered t said in
+          let ranked = c.in_ok-enqueue.ensures.ranked t said in
           record {
             paint = rw (first, others) (added_paint after t.history a bs may.painting.paint may.so);
-            numbered = rw c.add_candidate.ensures.queue (numbered.numbered may.painting.numbered);
+            ranked = rw c.add_candidate.ensures.queue (ranked.ranked may.painting.ranked);
             visiting =
                 rw (first, others, visits)
                 (λ right below.
@@ -81,7 +81,7 @@ returns g c =
           });
       adds = after.adds;
       level = λ t level said.
-          rw c.add_candidate.ensures.queue (added_level after t.history (c.in_ok-enqueue.ensures.numbered t said) level);
+          rw c.add_candidate.ensures.queue (added_level after (c.in_ok-enqueue.ensures.ranked t said) level);
       work = rw c.add_candidate.ensures.queue after.work;
       failed = tt;
     }
@@ -89,4 +89,4 @@ returns g c =
 pub returns-then-covers-clause-told : goal.returns-then-covers-clause-told
 returns-then-covers-clause-told g c = λ t said.
     let was = (c.requires.told t said).painting in
-    record { paint = was.paint; numbered = was.numbered; visiting = was.visiting }
+    record { paint = was.paint; ranked = was.ranked; visiting = was.visiting }

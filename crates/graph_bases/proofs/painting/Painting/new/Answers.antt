@@ -1,7 +1,7 @@
 use Rattle.std.proofs.Common.{heap_items, [], sym}
 use Rattle.commit_search.specs.Positions.{numbers_of}
 use Rattle.graph_bases.proofs.CoatLemmas.{candidates_none}
-use Rattle.graph_bases.proofs.EdgeLemmas.{paint_none, waiting_none, numbered_none, visiting_none}
+use Rattle.graph_bases.proofs.EdgeLemmas.{paint_none, waiting_none, ranked_none, visiting_none}
 use Rattle.graph_bases.proofs.PassLemmas.{passed_none}
 use Rattle.graph_bases.proofs.VisitCountLemmas.{count_none}
 use Rattle.graph_bases.proofs.painting.Painting.new.Goals as goal
@@ -20,15 +20,15 @@ returns-clause-painting g c =
     }
 
 pub returns-clause-told : goal.returns-clause-told
-returns-clause-told g c = λ h len.
+returns-clause-told g c = λ h k len.
     let a = c.args.first.0 in
     let bs = numbers_of c.args.others.now in
     let coats = c.args.coats.all in
     let e = c.requires.idle in
     record {
       paint = paint_none h a bs coats e.bare (sym len);
-      numbered = numbered_none h a bs coats e.bare (heap_items c.new.result) c.new.ensures.items;
-      visiting = λ right below. visiting_none h a bs coats e.bare;
+      ranked = ranked_none h a bs coats e.bare k (heap_items c.new.result) c.new.ensures.items;
+      visiting = λ along below. visiting_none h a bs coats e.bare k;
     }
 
 pub returns-clause-lists : goal.returns-clause-lists

@@ -1,13 +1,12 @@
-use Rattle.std.proofs.Common.{◌<◌, ◌≤◌, ap, ◌∙◌, sym, inr, arith}
-use Rattle.graph_walks.specs.History.{generation_at}
+use Rattle.std.proofs.Common.{ℕ, ◌<◌, ap, ◌∙◌, sym, inr, arith}
 use Rattle.commit_search.specs.Positions.{numbers_of}
 use Rattle.graph_bases.specs.Bases.{AreBelowCap}
 use Rattle.graph_bases.specs.Paint.{is_on_one_side}
 use Rattle.graph_bases.specs.declared.paint.Coat.{Coat}
 use Rattle.graph_bases.proofs.CoatLemmas.{but_added}
-use Rattle.graph_bases.proofs.EdgeLemmas.{falls_to_parent, painted_queued}
+use Rattle.graph_bases.proofs.EdgeLemmas.{painted_queued}
 use Rattle.graph_bases.proofs.PaintLemmas.{so_passed, passed_one_side}
-use Rattle.graph_bases.proofs.ReachLemmas.{step_reaches}
+use Rattle.graph_bases.proofs.RankLemmas.{step_never_rises}
 use Rattle.graph_bases.proofs.painting.Painting.pass.Goals as goal
 
 pub add-requires-clause-told : goal.add-requires-clause-told
@@ -16,22 +15,19 @@ add-requires-clause-told g c = λ t said.
     let h = t.history in
     let p = c.args.commit.0 in
     let q = c.args.parent.0 in
+    let k = g.R.Ranks.ranking c.args.ranks.now t in
     let r = c.requires.passes.told t said in
     let parent = c.requires.parent t said in
     record {
       painting = r.painting;
       so = rw c.passed.ensures (so_passed h s.first.0 (numbers_of s.others.now) p q c.args.paint r.so parent);
-      waits = λ right below painted.
-          (let order = r.in_order right in
-          let low : generation_at h q ≤ generation_at h p =
-          c.generations_never_rise_along_walks.ensures h p q right (step_reaches h p q parent) in
-          let fall =
-          falls_to_parent h p q low (order.uncapped below)
-          (λ x y. c.generations_fall_along_walks.ensures h x y right) parent in
-          painted_queued h s.coats.all _ (generation_at h p) q order.level fall painted);
+      waits = λ along below painted.
+          (let order = r.in_order along in
+          let fall = along.falls p q parent (order.uncapped below) in
+          painted_queued k s.coats.all _ (k.rank p) q order.level fall painted);
       edge = rw c.passed.ensures
-          (λ right below live.
-          let order = r.in_order right in
+          (λ along below live.
+          let order = r.in_order along in
           let own = order.own below in
           inr (
             p,
@@ -58,6 +54,7 @@ returns-clause-passes g c =
           ap (λ (m : Coat). m.paint) was ∙ r.same (sym (ap (λ (m : Coat). m.queued) was) ∙ settled));
       told = λ t said.
           (let h = t.history in
+          let k = g.R.Ranks.ranking c.args.ranks.now t in
           let before = c.add.ensures.kept t said in
           let told = r.told t before in
           let parent = c.requires.parent t before in
@@ -67,22 +64,19 @@ returns-clause-passes g c =
             spread = rw (f, o)
                 (but_added h s.first.0 (numbers_of s.others.now) q _ s.coats.all c.add.new.self.coats.all e.adds p
                 told.spread);
-            in_order = λ right.
-                (let order = told.in_order right in
-                let low : generation_at h q ≤ generation_at h p =
-                c.generations_never_rise_along_walks.ensures h p q right (step_reaches h p q parent) in
-                let falls : AreBelowCap h s.first.0 (numbers_of s.others.now) → generation_at h q < generation_at h p = λ below.
-                falls_to_parent h p q low (order.uncapped below)
-                (λ x y. c.generations_fall_along_walks.ensures h x y right) parent in
+            in_order = λ along.
+                (let order = told.in_order along in
+                let falls : AreBelowCap k s.first.0 (numbers_of s.others.now) → k.rank q < k.rank p = λ below.
+                along.falls p q parent (order.uncapped below) in
                 record {
                   uncapped = rw (f, o) order.uncapped;
                   painted = rw (f, o) order.painted;
                   own = rw (f, o)
                       (λ below.
                       ap (λ (m : Coat). m.queued)
-                      (e.adds.others p (λ same. let fall = falls below in omega (arith, fall, ap (generation_at h) same)))
+                      (e.adds.others p (λ same. let fall = falls below in omega (arith, fall, ap (λ (x : ℕ). k.rank x) same)))
                       ∙ order.own below);
-                  level = e.level t (generation_at h p) said low order.level;
+                  level = e.level t (k.rank p) said (step_never_rises along p q parent) order.level;
                 });
           });
     }

@@ -1,14 +1,13 @@
 use Rattle.std.proofs.Common.{◌≡◌, ◌+◌, ◌<◌, count_by, false, length, sym, ap, ◌∙◌, subst, lt_of_le_of_lt}
 use Rattle.std.proofs.Common.{heap_items, arith}
 use Rattle.std.proofs.lemmas.List.Sums.{count_by-le-length}
-use Rattle.graph_walks.specs.declared.TheConstants.{GENERATION_NUMBER_MAX}
 use Rattle.commit_search.specs.Positions.{numbers_of}
 use Rattle.graph_bases.specs.declared.paint.Coat.{Coat}
 use Rattle.graph_bases.specs.Bases.{AreBelowCap}
 use Rattle.graph_bases.specs.Paint.{is_painted, is_fresh, is_visited, paint_at, Grows, IsSo}
 use Rattle.graph_bases.proofs.EdgeLemmas.{next_queued, painted_below_cap, visiting_taken}
 use Rattle.graph_bases.proofs.CoatLemmas.{IsNext, coat_with, none_fresh, stops, stops_empty, next_within, next_inside, taken_by}
-use Rattle.graph_bases.proofs.CoatLemmas.{next_number, rest_numbered, taken_paint, taken_spread, taken_level}
+use Rattle.graph_bases.proofs.CoatLemmas.{next_rank, rest_ranked, taken_paint, taken_spread, taken_level}
 use Rattle.graph_bases.proofs.CoatLemmas.{candidates_same}
 use Rattle.graph_bases.proofs.PaintLemmas.{grows_refl}
 use Rattle.graph_bases.proofs.PassLemmas.{passed_kept}
@@ -92,40 +91,38 @@ visit-requires-clause-passes g c =
       same = λ settled. after.same p ∙ sym (ap (λ (m : Coat). m.paint) c.at-known.ensures);
       told = λ t said.
           (let h = t.history in
+          let k = g.R.Ranks.ranking c.args.ranks.now t in
           let of = i.told t said in
           let spread = rw (← i.first, ← i.others) at (i.spread t said) in
           record {
             painting = record {
               paint = taken_paint after h a bs of.paint;
-              numbered = rest_numbered first h of.numbered;
-              visiting = λ right below.
-                  (let old = of.visiting right below in
-                  let cap =
-                  painted_below_cap of.paint (λ q r. c.generations_never_rise_along_walks.ensures h q r right) below p
-                  (old.painted p queued) in
-                  let number = next_number first h of.numbered in
+              ranked = rest_ranked first k of.ranked;
+              visiting = λ along below.
+                  (let old = of.visiting along below in
+                  let cap = painted_below_cap of.paint along below p (old.painted p queued) in
+                  let number = next_rank first k of.ranked in
+                  let is_cap = c.cap-cap.ensures t in
                   let some : 0 < count_by is_fresh coats =
                   elim c.else-self-eq0.branch [
                     | else-self-eq0-via-then-self-eq0+else-is_below_cap w ↦
-                        absurd (omega (arith, w.if-is_below_cap.false, cap, number))
+                        absurd (omega (arith, w.if-is_below_cap.false, cap, number, is_cap))
                     | else-self-eq0-via-else-self-eq0 w ↦ omega (arith, w.if-self-eq0.false, i.painting.counted.fresh)
                   ] in
                   let visits : c.saturating_add-self.result ≡ s.visits + 1 =
                   omega (arith, c.saturating_add-self.ensures, old.count, few, i.painting.few, i.painting.coats_len) in
-                  rw visits (visiting_taken first of.numbered is_coat c.in_ok-set.ensures.coats after queued some old));
+                  rw visits (visiting_taken first of.ranked is_coat c.in_ok-set.ensures.coats after queued some old));
             };
             so = subst (IsSo h a bs p) (sym (ap (λ (m : Coat). m.paint) c.at-known.ensures)) (of.paint.each p);
             spread = taken_spread after h a bs spread;
-            in_order = λ right.
-                (let level = i.level t said right in
-                let painted = λ (below : AreBelowCap h a bs). (of.visiting right below).painted p queued in
+            in_order = λ along.
+                (let level = i.level t said along in
+                let painted = λ (below : AreBelowCap k a bs). (of.visiting along below).painted p queued in
                 record {
-                  uncapped = λ below.
-                      painted_below_cap of.paint (λ q r. c.generations_never_rise_along_walks.ensures h q r right) below p
-                      (painted below);
+                  uncapped = λ below. painted_below_cap of.paint along below p (painted below);
                   painted = λ below. ap (λ (m : Coat). is_painted m.paint) c.at-known.ensures ∙ painted below;
                   own = λ below. after.here;
-                  level = taken_level first h of.numbered level.1 after;
+                  level = taken_level first k of.ranked level.1 after;
                 });
           });
     })
@@ -157,13 +154,14 @@ returns-then-is_below_cap-clause-done g c = λ t said right.
     let s = c.loop-next.self in
     let coats = s.coats.all in
     let i = c.loop-next.invariant in
-    let below : c.in-Some.next.0 < GENERATION_NUMBER_MAX = omega arith in
+    let k = g.R.Ranks.ranking c.args.ranks.now t in
+    let is_cap = c.cap-cap.ensures t in
+    let below : c.in-Some.next.0 < k.cap = omega arith in
     let stale =
     none_fresh _ coats (heap_items s.queue) i.painting.waiting i.painting.coats_len
     (sym i.painting.counted.fresh ∙ c.if-self-eq0.true) in
     let level = i.level t said right in
-    stops (next g (goal.at.returns-then-is_below_cap-clause-done g c).In-Some) t.history (i.told t said).numbered level.1 stale
-    below
+    stops (next g (goal.at.returns-then-is_below_cap-clause-done g c).In-Some) k (i.told t said).ranked level.1 stale below
 
 pub returns-then-is_below_cap-clause-paint : goal.returns-then-is_below_cap-clause-paint
 returns-then-is_below_cap-clause-paint g c = λ t said.
@@ -191,4 +189,5 @@ returns-clause-done g c = λ t said right.
     let i = l.invariant in
     let level = i.level t said right in
     let empty : length (heap_items l.self.queue) ≡ 0 = omega (arith, c.in_default.ensures.none) in
-    stops_empty t.history _ l.self.coats.all (heap_items l.self.queue) level.0 i.painting.waiting level.1 empty
+    let k = g.R.Ranks.ranking c.args.ranks.now t in
+    stops_empty k _ l.self.coats.all (heap_items l.self.queue) level.0 i.painting.waiting level.1 empty

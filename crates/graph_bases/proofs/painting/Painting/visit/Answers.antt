@@ -7,7 +7,7 @@ use Rattle.graph_bases.proofs.painting.Painting.visit.Goals as goal
 pub visit_field-requires-clause-passes : goal.visit_field-requires-clause-passes
 visit_field-requires-clause-passes g c =
     rw c.parent_fields.ensures.known
-    (passes_kept _ _ _ c.args.self.now c.args.commit.0 c.args.paint c.parent_fields.ensures.kept c.requires.passes)
+    (passes_kept _ _ _ _ c.args.self.now c.args.commit.0 c.args.paint c.parent_fields.ensures.kept c.requires.passes)
 
 pub visit_field-requires-clause-lists : goal.visit_field-requires-clause-lists
 visit_field-requires-clause-lists g c = λ t said. c.requires.lists t (c.parent_fields.ensures.kept t said)

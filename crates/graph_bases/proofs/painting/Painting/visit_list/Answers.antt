@@ -27,7 +27,7 @@ loop-commit-init g c =
       kept = λ t said. said;
       first = refl;
       others = refl;
-      passes = passes_with _ _ s c.grow_to.new.self c.args.commit.0 c.args.paint r.passes;
+      passes = passes_with _ _ _ s c.grow_to.new.self c.args.commit.0 c.args.paint r.passes;
       on = record { grows = λ q. grows_refl _; work = omega arith };
       room = c.in_ok-grow_to.ensures.room;
       within = c.words_of-count.ensures.there;
@@ -47,7 +47,7 @@ listed_parent-requires-clause-listed g c = rw c.loop-commit.invariant.known c.lo
 pub pass-requires-clause-passes : goal.pass-requires-clause-passes
 pass-requires-clause-passes g c =
     rw (c.listed_parent.ensures.known, c.loop-commit.invariant.known)
-    (passes_kept _ _ _ c.loop-commit.self c.args.commit.0 c.args.paint c.listed_parent.ensures.kept
+    (passes_kept _ _ _ _ c.loop-commit.self c.args.commit.0 c.args.paint c.listed_parent.ensures.kept
     c.loop-commit.invariant.passes)
 
 pub pass-requires-clause-within : goal.pass-requires-clause-within
@@ -120,7 +120,7 @@ loop-commit-preserved g c =
       kept = λ t said. inv.kept t (c.listed_parent.ensures.kept t (c.pass.ensures.kept t said));
       first = c.pass.ensures.first ∙ inv.first;
       others = c.pass.ensures.others ∙ inv.others;
-      passes = passes_with _ _ after c.add.new.self c.args.commit.0 c.args.paint e_passes;
+      passes = passes_with _ _ _ after c.add.new.self c.args.commit.0 c.args.paint e_passes;
       on = (let both = passes_on_trans s l.self after inv.on e.on in record { grows = both.grows; work = both.work });
       room = omega (
         arith,
@@ -141,7 +141,7 @@ loop-commit-preserved g c =
 
 pub returns-in-Last-clause-passes : goal.returns-in-Last-clause-passes
 returns-in-Last-clause-passes g c =
-    passes_with _ _ c.pass.new.self c.add.new.self c.args.commit.0 c.args.paint
+    passes_with _ _ _ c.pass.new.self c.add.new.self c.args.commit.0 c.args.paint
     (rw (c.listed_parent.ensures.known, c.loop-commit.invariant.known) at c.in_ok-pass.ensures.passes)
 
 pub returns-in-Last-clause-lists : goal.returns-in-Last-clause-lists

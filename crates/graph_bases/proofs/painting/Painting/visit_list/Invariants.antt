@@ -16,7 +16,7 @@ invariant-loop-commit g l =
       kept : (t : Told) → says t → g.S.CommitSource.says l.fn.commits t;
       first : l.self.first ≡ l.fn.self.first;
       others : l.self.others.now ≡ l.fn.self.others.now;
-      passes : PassesPaint (g.S.CommitSource.count k) says l.self l.commit.0 l.paint;
+      passes : PassesPaint (g.S.CommitSource.count k) says (g.R.Ranks.ranking l.ranks) l.self l.commit.0 l.paint;
       on : PassesOn l.fn.self l.self;
       room : l.count ≤ length (trail_in l.self.coats.trails.layers.items l.layer);
       within : l.next < l.count;
