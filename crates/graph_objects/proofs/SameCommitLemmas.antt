@@ -14,7 +14,7 @@ use Rattle.commit_objects.specs.Time.{IsTime}
 use Rattle.commit_objects.proofs.ParentLemmas.{says_one}
 use Rattle.object_stream.specs.BatchEntry.{line_of_commit, commit_entry, BeginsWithEntry}
 use Rattle.graph_objects.specs.Matching.{MatchesAt, recorded_parents, each_known}
-use Rattle.graph_objects.specs.OneGraph.{SayTheSame, HaveTheSameCommits, HaveNoTwoContents}
+use Rattle.graph_objects.specs.OneGraph.{SayTheSameAt, HaveTheSameCommits, HaveNoTwoContents}
 use Rattle.graph_objects.specs.Stream.{graph_id_at, entries_of, AllMatch, IsStreamOf}
 use Rattle.graph_objects.proofs.CommitLemmas.{of_layer}
 use Rattle.graph_objects.proofs.DigestLemmas.{matched, matched-id}
@@ -87,7 +87,7 @@ module _ (one other : List Layer) (kind : Kind) (one_alike : All (λ layer. laye
       (subst (λ k. Says k bytes b.3.said) b_kind b.3.says)
 
   -- what the contents of one commit say of it in both
-  say_same : (p : ℕ) (bytes : List ℕ) → MatchesAt one p bytes → MatchesAt other p bytes → SayTheSame one other p
+  say_same : (p : ℕ) (bytes : List ℕ) → MatchesAt one p bytes → MatchesAt other p bytes → SayTheSameAt one other p
   say_same p bytes first second =
       let a = matched one p bytes first in
       let b = matched other p bytes second in

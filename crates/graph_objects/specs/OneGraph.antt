@@ -21,7 +21,7 @@ time_at layers p = option_map (λ place. (record_at place.0 place.1).time) (slic
 
 -- Both graphs say the same of the commit at a position. Git reads its time from one text, older versions and newer ones in two
 -- ways, which differ for odd texts alone.
-pub record SayTheSame (one other : List Layer) (p : ℕ) : Type 0 where
+pub record SayTheSameAt (one other : List Layer) (p : ℕ) : Type 0 where
   pub id : graph_id_at one p ≡ graph_id_at other p
   pub tree : tree_at one p ≡ tree_at other p
   pub parents : parent_ids_at one p ≡ parent_ids_at other p
@@ -31,7 +31,7 @@ pub record SayTheSame (one other : List Layer) (p : ℕ) : Type 0 where
 -- They have as many commits, and say the same of each.
 pub record HaveTheSameCommits (one other : List Layer) : Type 0 where
   pub as_many : total one ≡ total other
-  pub each : (p : ℕ) → p < total one → SayTheSame one other p
+  pub each : (p : ℕ) → p < total one → SayTheSameAt one other p
 
 -- Both have the same ids, the same parents by their positions, and the same generation numbers.
 pub record IsOneGraph (one other : List Layer) : Type 0 where

@@ -1,0 +1,2 @@
+pub mod OneLayerLemmas
+pub mod OneFileLemmas
