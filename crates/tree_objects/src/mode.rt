@@ -27,7 +27,7 @@ pub(crate) fn are_octal(digits: &[u8]) -> bool
 }
 
 /// The lower sixteen bits of the number that octal digits spell.
-#[tactic(auto, using(crate::proofs::ModeLemmas::octal_step), unfolding(crate::specs::Mode::octal_of_first))]
+#[tactic(auto, using(crate::proofs::ModeLemmas::octal_laws))]
 pub(crate) fn lower_bits(digits: &[u8]) -> u16
     requires { AllPass spec.is_octal digits.now }
     ensures { result ≡ spec.octal digits.now % 65536 }
