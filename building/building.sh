@@ -92,7 +92,7 @@ build() {
 is_cgraph_current() {
     [ -x "$cgraph" ] && [ -x "$cgraph-texts" ] || return 1
     for source in "$top"/cgraph/Cargo.toml "$top"/cgraph/src/*.rs "$top"/cgraph/src/*/*.rs "$top/VERSION" \
-        "$top/docs/MANUAL.md" "$top/tables/refusals.tsv" "$top/docs/PROGRAMS.md" "$top/tables/commands"; do
+        "$top/docs/MANUAL.md" "$top/tables/refusals.tsv" "$top/docs/PROGRAMS.md" "$top/tables/commands" "$top/tables/fields"; do
         [ ! "$source" -nt "$cgraph" ] || return 1
     done
 }

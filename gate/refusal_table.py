@@ -1,5 +1,6 @@
 """The table of refusals, tables/refusals.tsv, and the texts that are made of it: `python3 gate/refusal_table.py --write` writes
 these anew, and without a word it says which are not what the table makes. tables/README.md says what the columns are.
+The lists of errors in code and in definitions are made by `error_lists`.
 """
 
 import ast
@@ -7,6 +8,9 @@ import os
 import re
 import sys
 from typing import List, NamedTuple, Optional
+
+import error_lists
+from error_lists import LINES
 
 TOP = os.path.dirname(os.path.dirname(os.path.abspath(__file__)))
 TABLE = "tables/refusals.tsv"
@@ -226,15 +230,19 @@ def rust(rows, text):
 
 
 MADE = {DOCUMENT: document, HEADER: header, PYTHON: python, RUST: rust}
-"""What is made of the table, by the file that has it."""
+"""What is made of the table alone, by the file that has it."""
+
+
+def made(texts):
+    """What each file becomes that is made of the table, or of the table and the enums of errors."""
+    rows = rows_of(texts[TABLE])
+    of_table = {path: make(rows, texts[path]) for path, make in MADE.items()}
+    return {**of_table, **{path: make(rows, texts, texts[path]) for path, make in error_lists.MADE.items()}}
 
 
 def stale(texts):
     """The files that are not what the table makes of them."""
-    rows = rows_of(texts[TABLE])
-    for path, made in MADE.items():
-        if made(rows, texts[path]) != texts[path]:
-            yield path
+    yield from (path for path, text in made(texts).items() if text != texts[path])
 
 
 def missing(texts):
@@ -265,15 +273,6 @@ KINDS = {
     "told_mismatch": "mismatch",
 }
 """The kind of the errors of which a definition tells that does not name it."""
-
-LINES = {
-    "id": "refused id %d", "read": "refused read %d", "entry": "refused objects %d position P", "open": "refused open %d",
-    "file": "refused file %d", "chunk": "refused file 5 chunk %d", "graph": "refused open 6 graph %d", "verify": "refused verify %d",
-    "layer": "refused verify 4 layer L fault %d", "commit": "refused verify 5 position P fault %d", "parent": "!%d",
-    "dates": "refused dates %d", "filters": "refused filters %d", "mismatch": "refused objects %d position P",
-    "write": "refused write %d",
-}
-"""The line that a program writes for an error of each kind."""
 
 BASES = {
     "open": 20, "file": 100, "chunk": 150, "graph": 200, "verify": 300, "layer": 340, "commit": 350, "parent": 360, "dates": 400,
@@ -372,17 +371,23 @@ def main(words):
     if words not in ([], ["--write"]):
         print("usage: gate/refusal_table.py [--write]", file=sys.stderr)
         return 2
-    texts = {}
-    for path in [TABLE, *MADE]:
-        with open(os.path.join(TOP, path), encoding="utf-8", newline="") as file:
-            texts[path] = file.read()
-    others = list(stale(texts))
-    for path in others:
+    texts = read_texts()
+    others = {path: text for path, text in made(texts).items() if text != texts[path]}
+    for path, text in others.items():
         print(path)
         if words:
             with open(os.path.join(TOP, path), "w", encoding="utf-8", newline="") as file:
-                file.write(MADE[path](rows_of(texts[TABLE]), texts[path]))
+                file.write(text)
     return 0 if words or not others else 1
+
+
+def read_texts():
+    """The table, and all that is made of it or read for that."""
+    texts = {}
+    for path in [TABLE, *MADE, *error_lists.READ]:
+        with open(os.path.join(TOP, path), encoding="utf-8", newline="") as file:
+            texts[path] = file.read()
+    return texts
 
 
 if __name__ == "__main__":

@@ -4,84 +4,97 @@ use std::io::BufRead;
 
 use crate::json::{Object, Value};
 
+/// The table, as the clone has it.
+const TABLE: &str = include_str!("../../tables/fields");
+
 /// The fields of the lines of a command.
 pub fn fields_of(command: &str, lines: impl BufRead) -> Object {
+    let rows: Vec<Row> = TABLE.lines().filter_map(|line| Row::of(line, command)).collect();
     let mut fields = Object::default();
     for line in lines.lines().map_while(Result::ok) {
         let words: Vec<&str> = line.split(' ').collect();
-        match command {
-            "verify" | "distinct" | "check" => add_counts(&mut fields, &words),
-            "write" => add_written(&mut fields, &words),
-            _ => add_found(&mut fields, command, &words),
+        if let Some(row) = rows.iter().find(|row| row.fits(&words)) {
+            for part in &row.parts {
+                add_part(&mut fields, part, &words);
+            }
         }
     }
     fields
 }
 
-/// What a word says: a number, or nothing for `none`.
-fn value_of(word: &str) -> Value {
-    match word.parse() {
-        Ok(number) => Value::Number(number),
-        Err(_) if word == "none" => Value::Null,
-        Err(_) => Value::from(word),
+/// A row of the table: the words of a line, and what becomes of it.
+struct Row {
+    form: Vec<&'static str>,
+    parts: Vec<&'static str>,
+}
+
+impl Row {
+    /// The row of a line of the table, if it is one of this command.
+    fn of(line: &'static str, command: &str) -> Option<Row> {
+        let (form, parts) = line.split_once(" : ").filter(|_| !line.starts_with('#'))?;
+        let mut form = form.split_whitespace();
+        let is_own = form.next()?.split(',').any(|own| own == command);
+        is_own.then(|| Row { form: form.collect(), parts: parts.split_whitespace().collect() })
+    }
+
+    /// Whether these are its words.
+    fn fits(&self, words: &[&str]) -> bool {
+        self.form.len() == words.len()
+            && self.form.iter().zip(words).all(|(own, word)| *own == "*" || own == word)
     }
 }
 
-/// A line of what is counted where all is right.
-fn add_counts(fields: &mut Object, words: &[&str]) {
-    match *words {
-        ["ok", "commits", commits, "longest", longest] => {
-            fields.set("commits", value_of(commits));
-            fields.set("longest", value_of(longest));
-            fields.object("parents");
+/// Adds a part of what becomes of a line: a field, one more value of a list, or one more field of
+/// an object; or begins a list or an object that may stay empty.
+fn add_part(fields: &mut Object, part: &str, words: &[&str]) {
+    let (name, value) = part.split_once('=').unwrap_or((part, ""));
+    if let Some(name) = name.strip_suffix("[]") {
+        let list = fields.list(name);
+        if !value.is_empty() {
+            list.push(value_of(value, words));
         }
-        ["parents", number, "commits", commits] => {
-            fields.object("parents").set(number, value_of(commits));
-        }
-        [name, "commits", commits] => fields.set(name, value_of(commits)),
-        [name, "none"] => fields.set(name, Value::Null),
-        _ => {}
+    } else if let Some(name) = name.strip_suffix("{}") {
+        add_pair(fields.object(name), value, words);
+    } else {
+        fields.set(word_of(name, words), value_of(value, words));
     }
 }
 
-/// A line of what was written.
-fn add_written(fields: &mut Object, words: &[&str]) {
-    if let ["ok", "commits", commits, rest @ ..] = words {
-        fields.set("commits", value_of(commits));
-        if let ["layers", layers] = rest {
-            fields.set("layers", value_of(layers));
-        }
+/// Adds a field to an object, if there is one: its name in quotes, a colon, and its value.
+fn add_pair(object: &mut Object, pair: &str, words: &[&str]) {
+    if let Some((name, value)) = pair.split_once(':') {
+        object.set(word_of(name.trim_matches('"'), words), value_of(value, words));
     }
 }
 
-/// A line of an answer about commits.
-fn add_found(fields: &mut Object, command: &str, words: &[&str]) {
-    match (command, words) {
-        ("find", ["position", position, "generation", generation, "time", time]) => {
-            fields.set("position", value_of(position));
-            fields.set("generation", value_of(generation));
-            fields.set("time", value_of(time));
-        }
-        ("find", ["none"]) => fields.set("position", Value::Null),
-        ("is-ancestor", [word @ ("yes" | "no")]) => fields.set("is_ancestor", *word == "yes"),
-        ("walk", ["none"]) => fields.set("walk", Value::Null),
-        ("walk", [id]) => fields.list("walk").push(Value::from(*id)),
-        ("merge-base", ["none"]) => {
-            fields.list("merge_bases");
-        }
-        ("merge-base", ["base", position, id]) => {
-            let mut base = Object::default();
-            base.set("id", *id);
-            base.set("position", value_of(position));
-            fields.list("merge_bases").push(base.into());
-        }
-        ("merge-base", ["ahead", ahead, "behind", behind]) => {
-            fields.set("ahead", value_of(ahead));
-            fields.set("behind", value_of(behind));
-        }
-        ("merge-base", ["visits", visits]) => fields.set("visits", value_of(visits)),
-        _ => {}
+/// A word of the table, or the word of the line of which it has the number.
+fn word_of<'a>(text: &'a str, words: &[&'a str]) -> &'a str {
+    let number = text.strip_prefix('$').and_then(|number| number.parse::<usize>().ok());
+    number.and_then(|number| words.get(number.checked_sub(1)?)).copied().unwrap_or(text)
+}
+
+/// A value of the table: an object, a text in quotes, a truth, or what a word says, which is a
+/// number, or nothing for `none`.
+fn value_of(text: &str, words: &[&str]) -> Value {
+    if let Some(pairs) = text.strip_prefix('{').and_then(|text| text.strip_suffix('}')) {
+        let mut object = Object::default();
+        pairs.split(',').for_each(|pair| add_pair(&mut object, pair, words));
+        return object.into();
     }
+    match word_of(text, words) {
+        "true" => Value::Bool(true),
+        "false" => Value::Bool(false),
+        "none" | "null" => Value::Null,
+        word => match word.parse() {
+            Ok(number) => Value::Number(number),
+            Err(_) => Value::from(word_of(word.trim_matches('"'), words)),
+        },
+    }
+}
+
+/// What a word of a listing says.
+fn number_of(word: &str) -> Value {
+    value_of(word, &[])
 }
 
 /// Makes objects of the lines of a listing. Positions count over all layers.
@@ -111,7 +124,7 @@ impl Listing {
                 self.layer_fields.set("layer", self.layer);
                 self.layer_fields.set("hash", hash);
                 self.layer_fields.set("bases", Value::List(Vec::new()));
-                self.layer_fields.set("commits", value_of(commits));
+                self.layer_fields.set("commits", number_of(commits));
                 self.awaited = bases.parse().unwrap_or(0);
                 self.bases.clear();
                 (self.awaited == 0).then(|| self.layer_fields.clone())
@@ -127,10 +140,10 @@ impl Listing {
                 commit.set("position", self.below + position);
                 commit.set("id", id);
                 commit.set("tree", tree);
-                commit.set("generation", value_of(generation));
-                commit.set("time", value_of(time));
+                commit.set("generation", number_of(generation));
+                commit.set("time", number_of(time));
                 let parents = parents.split(',').filter(|parent| *parent != "-");
-                commit.set("parents", Value::List(parents.map(value_of).collect()));
+                commit.set("parents", Value::List(parents.map(number_of).collect()));
                 Some(commit)
             }
             _ => None,

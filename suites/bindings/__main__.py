@@ -49,8 +49,9 @@ LINES = [b"", b"\n", b"a", b"a\n", b"a\r\n\nb\r", b"\r\n\r\r\nc", b"\n\n", b"ab\
 HELGRIND = ["valgrind", "-q", "--tool=helgrind", "--error-exitcode=99", f"--suppressions={HERE / 'helgrind.supp'}"]
 SANITIZED = "-Zsanitizer=thread -Cunsafe-allow-abi-mismatch=sanitizer"
 """Flags of a nightly Rust compiler. Its standard library is not built with them."""
-CALLING_ALL = ("ask.c", "large.c", "memory.c", "threads.c")
-"""The programs that make each call. Those of fields.c are the calls that write a struct."""
+CALLING_ALL = ("ask.c", "memory.c", "threads.c")
+"""The programs that make each call. Those of fields.c are the calls that write a struct. What each call says of large graphs, suites/sizes
+asks by its table."""
 IN_HEADER = {"cg_strerror", "cg_advice", "cg_closed", "cg_no_bytes", "cg_no_flag", "cg_not_lent"}
 """Functions that the header has whole."""
 SENTENCES = ("cg_strerror", "cg_advice")

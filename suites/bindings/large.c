@@ -1,4 +1,4 @@
-/* large GRAPH [QUESTIONS ANSWERS]: makes each call on a graph of many commits, and prints what it tells in a struct. QUESTIONS
+/* large GRAPH [QUESTIONS ANSWERS]: makes calls on a graph of many commits, and prints what they tell in a struct. QUESTIONS
  * are numbers of 32 bits: how many pairs, the pairs, a commit, how many others, and the others, by their positions. Then what is
  * told of all commits and of these is written to ANSWERS, one call's after another's. Status 9: two calls disagree. */
 #include "commitgraph.h"

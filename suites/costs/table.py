@@ -1,11 +1,12 @@
 """The table: for each command, question and call of the library for C, how its instructions and the bytes that it asks of the heap may
 grow with shapes that are made to do harm. What is new joins by a row here, behind its row in the table of suites/sizes, which says what
-it is asked.
+it is asked. A call that costs the same whatever the graph needs no row here.
 """
 
 from typing import NamedTuple, Tuple
 
 from costs.growth import BY_BYTES, BY_PARENTS, CONSTANT, IN_STEPS, LINEAR, LOGARITHMIC, N_LOG_N, SQUARE, Growth
+from sizes import library
 
 SIZES = {
     **{"lines": 500, "layers": 25, "alike": 25, "parents": 200, "lists": 100, "prefix": 1000, "steps": 1000, "tower": 1000},
@@ -135,8 +136,7 @@ QUESTIONS = (
 )
 """The questions, of each what it costs by itself."""
 
-CALLS = (
-    Row("cg_version", CALLED, CONSTANT, CONSTANT),
+GROWING = (
     Row("cg_open", ("lines", "prefix", "parents", "lists", "padding"), LINEAR.at_most(3), LINEAR),
     Row("cg_open", ("layers",), LINEAR.at_most(15), BY_BYTES),
     Row("cg_open_lent", ("lines", "prefix", "parents", "lists"), LINEAR.at_most(3), LINEAR),
@@ -151,27 +151,12 @@ CALLS = (
     Row("cg_check_within", ("layers",), BY_BYTES, LINEAR),
     Row("cg_close", FLAT, CONSTANT, CONSTANT),
     Row("cg_close", ("layers",), BY_BYTES, CONSTANT),
-    Row("cg_flag_new", CALLED, CONSTANT, CONSTANT),
-    Row("cg_flag_raise", CALLED, CONSTANT, CONSTANT),
-    Row("cg_flag_free", CALLED, CONSTANT, CONSTANT),
-    Row("cg_num_commits", CALLED, CONSTANT, CONSTANT),
-    Row("cg_id_len", CALLED, CONSTANT, CONSTANT),
-    Row("cg_num_layers", CALLED, CONSTANT, CONSTANT),
-    Row("cg_layer", CALLED, CONSTANT, CONSTANT),
-    Row("cg_layer_checksum", CALLED, CONSTANT, CONSTANT),
-    Row("cg_base_id_at", CALLED, CONSTANT, CONSTANT),
     Row("cg_lookup", FLAT, LOGARITHMIC, CONSTANT),
     Row("cg_lookup", ("alike",), LINEAR, CONSTANT),
     Row("cg_lookup_all", (*FLAT, "lists"), N_LOG_N, CONSTANT),
     Row("cg_lookup_all", ("alike",), SQUARE, CONSTANT),
-    Row("cg_id_at", CALLED, CONSTANT, CONSTANT),
-    Row("cg_tree_at", CALLED, CONSTANT, CONSTANT),
-    Row("cg_lend_id", CALLED, CONSTANT, CONSTANT),
-    Row("cg_lend_tree", CALLED, CONSTANT, CONSTANT),
     Row("cg_ids_at", (*FLAT, "lists"), LINEAR, CONSTANT),
     Row("cg_ids_at", ("layers",), N_LOG_N, CONSTANT),
-    Row("cg_commit_at", CALLED, CONSTANT, CONSTANT),
-    Row("cg_generation_at", CALLED, CONSTANT, CONSTANT),
     Row("cg_commits", CALLED, LINEAR, CONSTANT),
     Row("cg_parents", (*COMMITS, "layers", "padding"), CONSTANT, CONSTANT),
     Row("cg_parents", ("parents", "lists"), LINEAR, CONSTANT),
@@ -218,8 +203,9 @@ CALLS = (
     Row("cg_write", ("lists",), BY_PARENTS, BY_PARENTS),
     Row("cg_write", ("padding",), CONSTANT, CONSTANT),
     Row("cg_bytes_copy", ("lines", "prefix", "layers", "parents"), LINEAR, CONSTANT),
-    Row("cg_lend_bytes", CALLED, CONSTANT, CONSTANT),
-    Row("cg_bytes_free", CALLED, CONSTANT, CONSTANT),
     Row("cg_chain_line", ("lines", "prefix"), LINEAR, CONSTANT),
 )
-"""The calls of the library."""
+"""The calls of the library whose costs may grow with some shape, or are asked of others than the rest."""
+
+CALLS = (*GROWING, *(Row(name, CALLED, CONSTANT, CONSTANT) for name in library.names() if name not in {row.name for row in GROWING}))
+"""All calls: any other may cost no more, however large the graph is."""

@@ -13,7 +13,7 @@ PROGRAMS = ("graphtool", "historytool")
 COPIED = (
     *("git-cgraph", "graphtool", "historytool", "VERSION", "docs/MANUAL.md", "docs/REFUSALS.md", "docs/PROGRAMS.md"),
     "tables/refusals.tsv",
-    *("shell/answers.sh", "shell/usage.sh", "shell/explain.awk", "tables/commands"),
+    *("shell/answers.sh", "shell/usage.sh", "shell/explain.awk", "tables/commands", "tables/fields"),
     *("building/install", "building/program", "building/library", "building/package", "building/building.sh", "bindings/c/commitgraph.h"),
     *("bindings/c/commitgraph_path.h", "bindings/c/commitgraph.pc", "bindings/c/commitgraph.3", "bindings/c/commitgraph-config.cmake"),
     "bindings/c/commitgraph-config-version.cmake",

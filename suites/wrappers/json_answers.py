@@ -1,6 +1,7 @@
 """Checks `git cgraph --json`: each answer is read by Python's own reader, and its values are those of the plain answer.
 
-The table `fields` beside this file says what the lines of an answer stand for, so that `suites/real_data` compares any answer. What it makes of some answers stands in ANSWERS, by the manual; and the manual names each field of the table.
+The table tables/fields says what the lines of an answer stand for; it is read here a second time, so that `suites/real_data` compares
+any answer. What it has to make of some answers stands in ANSWERS, by the manual; and the manual names each field of the table.
 """
 
 import json
@@ -176,7 +177,7 @@ def fits(pattern, word):
 
 def read_rows():
     """The rows of the table: the commands, the words of a line, a colon, and what becomes of it."""
-    with open(os.path.join(TOP, "suites", "wrappers", "fields"), encoding="utf-8") as file:
+    with open(os.path.join(TOP, "tables", "fields"), encoding="utf-8") as file:
         halves = [line.split(" : ") for line in file if not line.startswith("#")]
     return [[*line.split(), ":", made.split()] for line, made in halves]
 

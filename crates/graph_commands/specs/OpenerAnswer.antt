@@ -2,6 +2,7 @@
 use Rattle.std.specs.Prelude.{ℕ, List, Result, Option, IfOk}
 use Rattle.std.specs.Option.{ForSome}
 use Rattle.graph_folder.specs.Tree.{Tree}
+use Rattle.graph_folder.specs.declared.folder.Folder.{Ghosts}
 use Rattle.graph_format.specs.Layer.{Layer}
 use Rattle.gix_commitgraph.specs.Graph.{IsGraph}
 use Rattle.gix_commitgraph.specs.Opening.{Opens, MetFailureIfDevice}
@@ -18,6 +19,11 @@ MayOpenBy known OpensSo old new answer =
 -- of the opener of what stands at the path
 abbrev pub MayOpen : Option Tree → List ℕ → ℕ → ℕ → Result (List Layer) OpenError → Type 0
 MayOpen known path old new answer = MayOpenBy known (λ tree. Opens tree path old new) old new answer
+
+-- in a call that took a folder from old to new, given what is known of folders of its type: what stands in each, and how many
+-- reads failed
+abbrev pub MayOpenIn : {T : Type 0} → Ghosts T → T → T → List ℕ → Result (List Layer) OpenError → Type 0
+MayOpenIn folders old new path = MayOpen (folders.tree old) path (folders.failure_count old) (folders.failure_count new)
 
 -- and of one that opens this in a known tree, and stops at a failure
 abbrev pub OpensAs : Option Tree → (Tree → Result (List Layer) OpenError) → Result (List Layer) OpenError → Type 0

@@ -9,13 +9,12 @@ ghost use Rattle.graph_commands.specs.Ancestor.{MayHaveWalk, ancestor_status, st
 ghost use Rattle.graph_commands.specs.Ancestor.{visits_line};
 ghost use Rattle.graph_commands.specs.WrittenAnswer.{IsToldOf, WritesAnswer};
 ghost use Rattle.graph_commands.specs.Buffer.{with_buffer};
-ghost use Rattle.graph_commands.specs.OpenerAnswer.{MayOpen};
+ghost use Rattle.graph_commands.specs.OpenerAnswer.{MayOpenIn};
 ghost use Rattle.graph_commands.specs.Text.{newline};
 
 use crate::buffer::Buffer;
-use crate::line::{WriteFailed, write_line};
+use crate::line::{WriteFailed, refuse, write_line};
 use crate::refusal::Refusal;
-use crate::run::refuse;
 use crate::status::Status;
 use gix_commitgraph::opening::open_in;
 use gix_commitgraph::{Graph, Position};
@@ -43,8 +42,7 @@ pub fn run_ancestor<T: Folder, W: Write>(
 ) -> Result<u8, WriteFailed>
     ensures written { IfOk result (WritesAnswer ancestor_text ancestor_status
         (MayRelate first.now second.now (folder.new ≡ folder.old)
-        (MayOpen (T.tree folder.old) path.now (T.failure_count folder.old)
-        (T.failure_count folder.new)))
+        (MayOpenIn T.Folder folder.old folder.new path.now))
         (W.contents writer.old) (W.contents writer.new)) }
     ensures tree { T.tree folder.new ≡ T.tree folder.old }
 {
@@ -64,8 +62,7 @@ fn ancestor<T: Folder>(
     second: &str,
 ) -> Result<Ancestry, Refusal>
     ensures may { MayRelate first.now second.now (folder.new ≡ folder.old)
-        (MayOpen (T.tree folder.old) path.now (T.failure_count folder.old)
-        (T.failure_count folder.new)) result }
+        (MayOpenIn T.Folder folder.old folder.new path.now) result }
     ensures tree { T.tree folder.new ≡ T.tree folder.old }
 {
     let first = ObjectId::from_hex(first.as_bytes())?;

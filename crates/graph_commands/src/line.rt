@@ -1,9 +1,11 @@
-//! A line that is written whole, and why it is not.
+//! A line that is written whole, as that of a refusal, and why it is not.
 
-ghost use Rattle.std.specs.Prelude.{IfSome, OnOk};
+ghost use Rattle.std.specs.Prelude.{IfOk, IfSome, OnOk};
 ghost use Rattle.std.specs.Fmt.{with_newline};
 ghost use Rattle.std.specs.Io.KnownBytes.{Appends};
+ghost use Rattle.graph_commands.specs.WrittenAnswer.{WritesRefusal};
 
+use crate::refusal::Refusal;
 use arrayvec::ArrayString;
 use std::fmt::Display;
 use std::io::Write;
@@ -35,4 +37,14 @@ pub fn write_line<W: Write, D: Display + Drop>(writer: &mut W, text: D) -> Resul
         Err(fmt::Error) => writer.writeln(text)?,
     }
     Ok(())
+}
+
+/// Writes the line of a refusal, and answers its exit status. `WriteFailed` comes where the writer
+/// fails.
+pub fn refuse<W: Write>(writer: &mut W, refusal: &Refusal) -> Result<u8, WriteFailed>
+    ensures { IfOk result
+        (WritesRefusal refusal.now (W.contents writer.old) (W.contents writer.new)) }
+{
+    write_line(writer, refusal)?;
+    Ok(refusal.status())
 }

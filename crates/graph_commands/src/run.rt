@@ -7,7 +7,7 @@ ghost use Rattle.std.specs.Ordering.{nat_cmp};
 ghost use Rattle.graph_format.specs.Layer.{IsLayer};
 ghost use Rattle.graph_format.specs.Opened.{MayRefuse};
 ghost use Rattle.graph_commands.specs.WrittenAnswer.{WritesAnswer, WritesRefusal};
-ghost use Rattle.graph_commands.specs.OpenerAnswer.{MayOpen};
+ghost use Rattle.graph_commands.specs.OpenerAnswer.{MayOpenIn};
 ghost use Rattle.graph_commands.specs.List.{MayList, list_path, list_status, list_text};
 ghost use Rattle.graph_commands.specs.Find.{MayFind, find_text, find_status};
 ghost use Rattle.graph_commands.specs.Report.{outcome_text};
@@ -17,8 +17,8 @@ ghost use Rattle.graph_commands.specs.CheckAnswers.{verify_text, verify_status};
 pub use crate::ancestor::{Ancestry, run_ancestor};
 use crate::buffer::Buffer;
 use crate::find::find_at;
-pub use crate::line::WriteFailed;
 use crate::line::write_line;
+pub use crate::line::{WriteFailed, refuse};
 use crate::listing::write_listing;
 use crate::refusal::Refusal;
 use crate::report::{Found, write_outcome};
@@ -90,9 +90,7 @@ pub fn run_verify<T: Folder, W: Write>(
     writer: &mut W,
 ) -> Result<u8, WriteFailed>
     ensures written { IfOk result (WritesAnswer verify_text verify_status
-        (MayVerify
-        (MayOpen (T.tree folder.old) path.now (T.failure_count folder.old)
-        (T.failure_count folder.new)))
+        (MayVerify (MayOpenIn T.Folder folder.old folder.new path.now))
         (W.contents writer.old) (W.contents writer.new)) }
     ensures tree { T.tree folder.new ≡ T.tree folder.old }
 {
@@ -115,9 +113,7 @@ pub fn run_distinct<T: Folder, W: Write>(
     writer: &mut W,
 ) -> Result<u8, WriteFailed>
     ensures written { IfOk result (WritesAnswer verify_text verify_status
-        (MayVerifyDistinct
-        (MayOpen (T.tree folder.old) path.now (T.failure_count folder.old)
-        (T.failure_count folder.new)))
+        (MayVerifyDistinct (MayOpenIn T.Folder folder.old folder.new path.now))
         (W.contents writer.old) (W.contents writer.new)) }
     ensures tree { T.tree folder.new ≡ T.tree folder.old }
 {
@@ -165,8 +161,7 @@ pub fn run_find<T: Folder, W: Write>(
 ) -> Result<u8, WriteFailed>
     ensures written { IfOk result (WritesAnswer find_text find_status
         (MayFind hex.now (folder.new ≡ folder.old)
-        (MayOpen (T.tree folder.old) path.now (T.failure_count folder.old)
-        (T.failure_count folder.new)))
+        (MayOpenIn T.Folder folder.old folder.new path.now))
         (W.contents writer.old) (W.contents writer.new)) }
     ensures tree { T.tree folder.new ≡ T.tree folder.old }
 {
@@ -191,20 +186,9 @@ fn find<T: Folder>(
     hex: &str,
 ) -> Result<Option<Found>, Refusal>
     ensures may { MayFind hex.now (folder.new ≡ folder.old)
-        (MayOpen (T.tree folder.old) path.now (T.failure_count folder.old)
-        (T.failure_count folder.new)) result }
+        (MayOpenIn T.Folder folder.old folder.new path.now) result }
     ensures tree { T.tree folder.new ≡ T.tree folder.old }
 {
     let id = ObjectId::from_hex(hex.as_bytes())?;
     Ok(find_at(alloc, folder, path, id.as_oid())?)
-}
-
-/// Writes the line of a refusal, and answers its exit status. `WriteFailed` comes where the writer
-/// fails.
-pub fn refuse<W: Write>(writer: &mut W, refusal: &Refusal) -> Result<u8, WriteFailed>
-    ensures { IfOk result
-        (WritesRefusal refusal.now (W.contents writer.old) (W.contents writer.new)) }
-{
-    write_line(writer, refusal)?;
-    Ok(refusal.status())
 }

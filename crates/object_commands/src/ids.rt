@@ -4,7 +4,7 @@ ghost use Rattle.std.specs.Prelude.{◌≡◌, [], Err, IfErr, IfOk, Ok, OnOk};
 ghost use Rattle.std.specs.Io.KnownBytes.{Appends};
 ghost use Rattle.std.specs.List.{flat_map};
 ghost use Rattle.graph_commands.specs.WrittenAnswer.{WritesAnswer};
-ghost use Rattle.graph_commands.specs.OpenerAnswer.{MayOpen};
+ghost use Rattle.graph_commands.specs.OpenerAnswer.{MayOpenIn};
 ghost use Rattle.object_commands.specs.AskedRange.{IsRangeOf, asked_range};
 ghost use Rattle.object_commands.specs.CommitIds.{MayListIds, ids_in_range, line_of_id};
 ghost use Rattle.object_commands.specs.CommitIds.{ids_text, ids_status};
@@ -33,9 +33,7 @@ pub fn run_ids<T: Folder, W: Write>(
     writer: &mut W,
 ) -> Result<u8, WriteFailed>
     ensures written { IfOk result (WritesAnswer ids_text ids_status
-        (MayListIds range
-        (MayOpen (T.tree folder.old) path.now (T.failure_count folder.old)
-        (T.failure_count folder.new)))
+        (MayListIds range (MayOpenIn T.Folder folder.old folder.new path.now))
         (W.contents writer.old) (W.contents writer.new)) }
     ensures tree { T.tree folder.new ≡ T.tree folder.old }
 {
@@ -60,14 +58,12 @@ fn prepare<T: Folder>(
     range: Option<PositionRange>,
 ) -> Result<(Graph, PositionRange, Buffer), ObjectsRefusal>
     ensures opened { IfOk result (λ prepared.
-        MayOpen (T.tree folder.old) path.now (T.failure_count folder.old)
-        (T.failure_count folder.new) (Ok prepared.0)) }
+        MayOpenIn T.Folder folder.old folder.new path.now (Ok prepared.0)) }
     ensures range { IfOk result (λ prepared. (prepared.1 ≡ asked_range prepared.0 range)
         × IsRangeOf prepared.0 prepared.1) }
     ensures buffer { IfOk result (λ prepared. prepared.2 ≡ []) }
     ensures refused { IfErr result (λ refusal. MayListIds range
-        (MayOpen (T.tree folder.old) path.now (T.failure_count folder.old)
-        (T.failure_count folder.new))
+        (MayOpenIn T.Folder folder.old folder.new path.now)
         (Err refusal)) }
     ensures tree { T.tree folder.new ≡ T.tree folder.old }
 {

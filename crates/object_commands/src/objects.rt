@@ -3,7 +3,7 @@
 ghost use Rattle.std.specs.Prelude.{◌≡◌, IfErr, IfOk, Ok};
 ghost use Rattle.gix_commitgraph.specs.Sound.{Sound};
 ghost use Rattle.graph_commands.specs.WrittenAnswer.{WritesAnswer};
-ghost use Rattle.graph_commands.specs.OpenerAnswer.{MayOpen};
+ghost use Rattle.graph_commands.specs.OpenerAnswer.{MayOpenIn};
 ghost use Rattle.object_commands.specs.ComparedObjects.{MayCompareObjects, MayFindNoRightGraph};
 ghost use Rattle.object_commands.specs.ComparedObjects.{objects_text, objects_status};
 
@@ -39,8 +39,7 @@ pub fn run_objects<R: Read, T: Folder, W: Write>(
 ) -> Result<u8, WriteFailed>
     ensures written { IfOk result (WritesAnswer objects_text objects_status
         (MayCompareObjects range (R.remaining reader.old) (R.remaining reader.new)
-        (MayOpen (T.tree folder.old) path.now (T.failure_count folder.old)
-        (T.failure_count folder.new)))
+        (MayOpenIn T.Folder folder.old folder.new path.now))
         (W.contents writer.old) (W.contents writer.new)) }
     ensures tree { T.tree folder.new ≡ T.tree folder.old }
 {
@@ -66,8 +65,7 @@ fn compare<R: Read, T: Folder>(
     range: Option<PositionRange>,
 ) -> Result<u32, ObjectsRefusal>
     ensures may { MayCompareObjects range (R.remaining reader.old) (R.remaining reader.new)
-        (MayOpen (T.tree folder.old) path.now (T.failure_count folder.old)
-        (T.failure_count folder.new))
+        (MayOpenIn T.Folder folder.old folder.new path.now)
         result }
     ensures tree { T.tree folder.new ≡ T.tree folder.old }
 {
@@ -80,12 +78,10 @@ fn compare<R: Read, T: Folder>(
 /// Opens the graph at the path, and checks it.
 fn open_checked<T: Folder>(alloc: Global, folder: &mut T, path: &str) -> Result<Graph, Refusal>
     ensures opened { IfOk result (λ graph.
-        MayOpen (T.tree folder.old) path.now (T.failure_count folder.old)
-        (T.failure_count folder.new) (Ok graph)) }
+        MayOpenIn T.Folder folder.old folder.new path.now (Ok graph)) }
     ensures right { IfOk result Sound }
     ensures refused { IfErr result (MayFindNoRightGraph
-        (MayOpen (T.tree folder.old) path.now (T.failure_count folder.old)
-        (T.failure_count folder.new))) }
+        (MayOpenIn T.Folder folder.old folder.new path.now)) }
     ensures tree { T.tree folder.new ≡ T.tree folder.old }
 {
     let graph = open_in(alloc, folder, path)?;
