@@ -11,8 +11,8 @@ without one may cost no more, however large the graph is.
 
 Without the programs and the shared library, `building/program` and `building/library` find them, and prove and build them first where
 a source is newer. A path `-` comes as a line of standard input. NAME is that of a shape, as tower, or of a row, as `ask walk`: then
-only these are counted. With `--large` each size is four times as large. Where valgrind or a C compiler is missing, a line says so, and
-nothing is counted. The last line is `N passed, M failed`.
+only these are counted. With `--large` each size is four times as large, or what a chain may have. Where valgrind or a C compiler is
+missing, a line says so, and nothing is counted. The last line is `N passed, M failed`.
 """
 
 import os
@@ -66,7 +66,8 @@ def count_all(results, found, times, names):
     with tempfile.TemporaryDirectory() as folder:
         counter = measured.Counter(folder)
         for name in [name for name in table.SIZES if name in names] or table.SIZES:
-            made = laid_out(name, os.path.join(folder, name), times * table.SIZES[name])
+            size = table.SIZES[name]
+            made = laid_out(name, os.path.join(folder, name), min(times * size, table.MOST.get(name, times * size)))
             Counts(results, counter, made, tools, names).run()
             shutil.rmtree(os.path.join(folder, name))
 

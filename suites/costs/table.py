@@ -14,6 +14,9 @@ SIZES = {
 }
 """Each shape, and the first of its three sizes."""
 
+MOST = {"layers": 64, "alike": 64}
+"""The most that the first size is also where larger ones are asked for: a chain has at most 256 layers."""
+
 COMMITS = ("lines", "prefix", "steps", "tower")
 """The shapes in which only commits become more: an id is found in a logarithm of them."""
 
@@ -27,6 +30,13 @@ FEW = ("padding", "filters")
 """Those whose commits do not become more."""
 
 UNCHECKED = " --unchecked"
+
+ONCE = 45
+"""The digests of a check take 25 instructions for each byte, and with all else it takes up to 37. So what checks a graph takes no more than
+this, and a second check of the whole more."""
+
+ONCE_IN_LAYERS = 50
+"""The same of a chain, whose small files take some more."""
 
 
 class Row(NamedTuple):
@@ -53,51 +63,54 @@ COMMANDS = (
     Row("list", ("layers",), LINEAR, LINEAR),
     Row("list", ("lists",), BY_PARENTS, IN_STEPS.at_most(0.5)),
     Row("list", ("padding",), LINEAR.at_most(0.5), LINEAR),
-    Row("verify", ("lines", "parents", "prefix", "lists", *FEW), LINEAR, LINEAR),
-    Row("verify", ("layers",), BY_BYTES, LINEAR),
-    Row("distinct", ("lines", "prefix", "tower"), LINEAR, LINEAR),
-    Row("distinct", ("layers",), BY_BYTES, LINEAR),
-    Row("find", ("lines", "tower"), LOGARITHMIC, CONSTANT),
+    Row("verify", ("lines", "parents", "prefix", "lists", *FEW), LINEAR.at_most(ONCE), LINEAR),
+    Row("verify", ("layers",), BY_BYTES.at_most(ONCE_IN_LAYERS), LINEAR),
+    Row("distinct", ("lines", "prefix", "tower"), LINEAR.at_most(ONCE), LINEAR),
+    Row("distinct", ("layers",), BY_BYTES.at_most(ONCE_IN_LAYERS), LINEAR),
+    Row("find", ("lines", "tower"), LOGARITHMIC, LINEAR.at_most(0.01)),
     Row("find", ("prefix", "steps"), LOGARITHMIC, LINEAR),
     Row("find", ("alike",), LINEAR, BY_BYTES),
     Row("find", FEW, CONSTANT, CONSTANT),
-    Row("ancestor", ("lines", "lists"), LINEAR, LINEAR),
-    Row("is-ancestor", ("lines", "lists"), LINEAR, LINEAR),
+    Row("ancestor", ("lines", "lists"), LINEAR.at_most(ONCE), LINEAR),
+    Row("is-ancestor", ("lines", "lists"), LINEAR.at_most(ONCE), LINEAR),
     Row("is-ancestor --unchecked", ("lines", "steps", "parents", "lists"), LINEAR, LINEAR),
     Row("is-ancestor --unchecked", ("layers",), BY_BYTES, BY_BYTES),
     Row("is-ancestor --unchecked", ("tower",), LOGARITHMIC, LOGARITHMIC),
     Row("is-ancestor --unchecked", FEW, CONSTANT, CONSTANT),
-    Row("walk", ("lines", "lists"), LINEAR, LINEAR),
+    Row("walk", ("lines", "lists"), LINEAR.at_most(38), LINEAR),
     Row("walk --unchecked", ("lines", "lists"), LINEAR, LINEAR),
     Row("walk --unchecked", ("layers",), LINEAR, BY_BYTES),
     Row("walk --unchecked", ("tower",), LOGARITHMIC, LOGARITHMIC),
     Row("walk --unchecked", FEW, CONSTANT, CONSTANT),
-    Row("merge-base", ("lines", "parents", "lists"), LINEAR, LINEAR),
+    Row("merge-base", ("lines", "lists"), LINEAR.at_most(ONCE), LINEAR),
+    Row("merge-base", ("parents",), LINEAR.at_most(85), LINEAR),
     Row("merge-base --unchecked", ("lines", "parents", "lists"), LINEAR, LINEAR),
     Row("merge-base --unchecked", ("layers",), LINEAR, BY_BYTES),
     Row("merge-base --unchecked", ("tower",), LOGARITHMIC, LOGARITHMIC),
     Row("merge-base --unchecked", FEW, CONSTANT, CONSTANT),
-    Row("merge-base-ids", ("parents",), LINEAR, LINEAR),
+    Row("merge-base-ids", ("parents",), LINEAR.at_most(85), LINEAR),
     Row("merge-base-ids --unchecked", ("parents",), LINEAR, LINEAR),
     Row("merge-base-ids --unchecked", ("tower",), LOGARITHMIC, LOGARITHMIC),
     Row("merge-base-ids --unchecked", FEW, CONSTANT, CONSTANT),
-    Row("check", ("lines", "lists", *FEW), LINEAR, LINEAR),
-    Row("check", ("layers",), BY_BYTES, LINEAR),
-    Row("show", ("lines", "lists", *FEW), LINEAR, LINEAR),
-    Row("show", ("layers",), BY_BYTES, LINEAR),
+    Row("check", ("lines", "lists", *FEW), LINEAR.at_most(ONCE), LINEAR),
+    Row("check", ("layers",), BY_BYTES.at_most(ONCE_IN_LAYERS), LINEAR),
+    Row("show", ("lines", "lists", *FEW), LINEAR.at_most(ONCE), LINEAR),
+    Row("show", ("layers",), BY_BYTES.at_most(ONCE_IN_LAYERS), LINEAR),
     Row("ids", ("lines",), LINEAR.at_most(4), LINEAR),
     Row("ids", ("layers",), LINEAR, LINEAR),
     Row("ids", ("padding",), LINEAR.at_most(0.5), LINEAR),
-    Row("objects", ("lines", "parents", "tower", "message"), LINEAR.at_most(40), LINEAR.at_most(5)),
+    Row("objects", ("lines", "parents", "tower", "message"), LINEAR.at_most(32), LINEAR.at_most(5)),
     Row("objects", ("marks",), LINEAR, LINEAR.at_most(5)),
     Row("objects", ("lists",), BY_PARENTS, LINEAR),
     Row("write", ("lines", "parents", "message"), LINEAR.at_most(40), LINEAR.at_most(5)),
     Row("write", ("marks",), LINEAR, LINEAR.at_most(5)),
     Row("write", ("lists",), BY_PARENTS, BY_PARENTS),
-    Row("write: on top", ("tower",), LINEAR, LINEAR),
-    Row("write: on top", ("layers",), BY_BYTES, LINEAR),
-    Row("merge", ("lines", "prefix", "steps", "filters"), LINEAR, LINEAR),
-    Row("merge", ("layers",), BY_BYTES, LINEAR),
+    Row("write: on top", ("tower",), LINEAR.at_most(ONCE), LINEAR),
+    Row("write: on top", ("layers",), BY_BYTES.at_most(ONCE_IN_LAYERS), LINEAR),
+    Row("merge", ("lines",), LINEAR.at_most(50), LINEAR),
+    Row("merge", ("prefix", "steps"), LINEAR.at_most(54), LINEAR),
+    Row("merge", ("filters",), LINEAR.at_most(31), LINEAR),
+    Row("merge", ("layers",), BY_BYTES.at_most(ONCE_IN_LAYERS), LINEAR),
     Row("merge", ("lists",), BY_PARENTS, BY_PARENTS),
 )
 """The commands."""
@@ -109,7 +122,8 @@ def both(name, shapes, instructions, memory):
 
 
 QUESTIONS = (
-    *both("ask find", COMMITS, LOGARITHMIC, CONSTANT),
+    Row("ask find", COMMITS, LOGARITHMIC, CONSTANT),
+    Row("ask find --unchecked", COMMITS, LOGARITHMIC, LOGARITHMIC),
     *both("ask find", ("alike",), LINEAR, LINEAR),
     *both("ask find", FEW, CONSTANT, CONSTANT),
     *both("ask is-ancestor", ("lines", "lists"), LINEAR, LINEAR),
@@ -143,12 +157,12 @@ GROWING = (
     Row("cg_open_lent", ("layers",), LINEAR.at_most(15), LINEAR),
     Row("cg_open_lent", ("padding",), CONSTANT, CONSTANT),
     Row("cg_open_known", ("lines", "layers", "prefix", "parents", "lists", "padding"), LINEAR.at_most(1), LINEAR),
-    Row("cg_open_checked", ("lines", "prefix", "parents", "lists", "padding"), LINEAR, LINEAR),
-    Row("cg_open_checked", ("layers",), BY_BYTES, BY_BYTES),
-    Row("cg_check", ("lines", "prefix", "parents", "lists", "padding"), LINEAR, LINEAR),
-    Row("cg_check", ("layers",), BY_BYTES, LINEAR),
-    Row("cg_check_within", ("lines", "prefix", "parents", "lists", "padding"), LINEAR, LINEAR),
-    Row("cg_check_within", ("layers",), BY_BYTES, LINEAR),
+    Row("cg_open_checked", ("lines", "prefix", "parents", "lists", "padding"), LINEAR.at_most(2 * ONCE), LINEAR),
+    Row("cg_open_checked", ("layers",), BY_BYTES.at_most(3 * ONCE), BY_BYTES),
+    Row("cg_check", ("lines", "prefix", "parents", "lists", "padding"), LINEAR.at_most(ONCE), LINEAR),
+    Row("cg_check", ("layers",), BY_BYTES.at_most(ONCE), LINEAR),
+    Row("cg_check_within", ("lines", "prefix", "parents", "lists", "padding"), LINEAR.at_most(ONCE), LINEAR),
+    Row("cg_check_within", ("layers",), BY_BYTES.at_most(ONCE), LINEAR),
     Row("cg_close", FLAT, CONSTANT, CONSTANT),
     Row("cg_close", ("layers",), BY_BYTES, CONSTANT),
     Row("cg_lookup", FLAT, LOGARITHMIC, CONSTANT),
@@ -165,8 +179,8 @@ GROWING = (
     Row("cg_first_parent", (*COMMITS, "parents", "padding"), CONSTANT, CONSTANT),
     Row("cg_parents_from", (*FLAT, "layers"), LINEAR, CONSTANT),
     Row("cg_parents_from", ("lists",), BY_PARENTS, CONSTANT),
-    Row("cg_verify", ("lines", "prefix", "parents", "lists", "padding"), LINEAR, LINEAR),
-    Row("cg_verify", ("layers",), BY_BYTES, LINEAR),
+    Row("cg_verify", ("lines", "prefix", "parents", "lists", "padding"), LINEAR.at_most(ONCE), LINEAR),
+    Row("cg_verify", ("layers",), BY_BYTES.at_most(ONCE), LINEAR),
     Row("cg_verify_layer", ("lines", "prefix", "parents", "lists", "padding"), LINEAR, LINEAR),
     Row("cg_verify_layer", ("layers",), LINEAR.at_most(1), CONSTANT),
     Row("cg_ancestor_walk", ("lines", "prefix", "layers", "parents", "lists"), LINEAR, LINEAR),
@@ -199,7 +213,7 @@ GROWING = (
     Row("cg_probe_path", FEW, CONSTANT, CONSTANT),
     Row("cg_matches", ("lines", "tower", "layers", "padding"), CONSTANT, CONSTANT),
     Row("cg_matches", ("parents", "lists", "marks", "message"), LINEAR, CONSTANT),
-    Row("cg_write", ("lines", "prefix", "tower", "layers", "parents"), LINEAR, LINEAR),
+    Row("cg_write", ("lines", "prefix", "tower", "layers", "parents"), LINEAR.at_most(25), LINEAR),
     Row("cg_write", ("lists",), BY_PARENTS, BY_PARENTS),
     Row("cg_write", ("padding",), CONSTANT, CONSTANT),
     Row("cg_bytes_copy", ("lines", "prefix", "layers", "parents"), LINEAR, CONSTANT),
