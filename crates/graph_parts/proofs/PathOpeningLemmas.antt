@@ -1,18 +1,25 @@
 -- what is opened by parts, as what stands at a path
-use Rattle.std.proofs.Common.{◌≡◌, ℕ, List, [], ◌∷◌, Option, None, Result, Ok, sym, ap, subst, ◌∙◌, inl, inr}
+use Rattle.std.proofs.Common.{◌≡◌, ℕ, List, [], ◌∷◌, Option, None, Result, Ok, Err, true, false, sym, ap, subst, ◌∙◌, inl, inr}
 use Rattle.std.specs.Option.{ForSome, ok_or}
 use Rattle.std.specs.Result.{result_or}
+use Rattle.graph_folder.specs.Failures.{failures_after}
 use Rattle.graph_folder.specs.Tree.{Tree, file_at}
+use Rattle.graph_folder.specs.declared.folder.ReadError.{ReadError}
 use Rattle.graph_format.specs.Layer.{Layer}
 use Rattle.graph_layer.specs.LayerOpening.{layer_of_bytes}
-use Rattle.graph_layer.specs.OpenAnswer.{and_then}
+use Rattle.graph_layer.specs.OpenAnswer.{and_then, is_settled}
 use Rattle.graph_layer.specs.declared.opening.error.OpenError.{OpenError}
-use Rattle.graph_layer.specs.declared.opening.error.OpenError.TheVariants.{NotOpened}
+use Rattle.graph_layer.specs.declared.opening.error.OpenError.TheVariants.{NothingFound, NotOpened, Device, ChainNotText}
+use Rattle.graph_layer.specs.declared.opening.error.OpenError.TheVariants.{Layer as layer_error, Graph as graph_error}
+use Rattle.graph_layer.specs.declared.opening.error.OpenError.TheVariants.{OutOfMemory}
+use Rattle.gix_commitgraph.specs.ByStanding.{InfoComes, PathComes, StandingComes}
 use Rattle.gix_commitgraph.specs.OpenAlways.{IsFromChain, IsFromFile, IsFromInfo, IsFromPath}
 use Rattle.gix_commitgraph.specs.Opening.{chain_opened, file_opened, graph_of_layers, info_opened, standing_at}
 use Rattle.gix_commitgraph.specs.Paths.{info_chain, info_file}
 use Rattle.gix_commitgraph.specs.declared.opening.Standing.{Standing}
-use Rattle.graph_parts.specs.PathOpening.{opened_as, opened_at}
+use Rattle.gix_commitgraph.specs.declared.opening.Standing.TheVariants.{File, ChainDir, InfoDir, Nothing}
+use Rattle.graph_parts.specs.PathOpening.{ChainPartsCome, FilePartsCome, PartsCome, opened_as, opened_at, parts_answer}
+use Rattle.graph_parts.proofs.ZipLemmas.{ok-some}
 use Rattle.graph_parts.specs.Shown.{ArePartsOf}
 use Rattle.graph_parts.specs.declared.parts.GraphParts.{GraphParts}
 
@@ -63,33 +70,127 @@ module _ (known : Option Tree) (path : List ℕ) where
       ∙ opens)
       (λ layers from. inr from)
 
-  -- the same, where the paths are told
-  pub info-file : (file : List ℕ) → file ≡ info_file path → (parts : GraphParts)
-      → ArePartsOf known (λ (tree : Tree). file_opened tree file) (IsFromFile file) parts
-      → ArePartsOf known (λ (tree : Tree). info_opened tree path) (IsFromInfo path) parts
-  info-file file named parts of =
-      info-of_file parts
-      (subst (λ (f : List ℕ). ArePartsOf known (λ (tree : Tree). file_opened tree f) (IsFromFile f) parts) named of)
-
-  pub info-chain : (now : Option Tree) (file chain : List ℕ) → now ≡ known → file ≡ info_file path → chain ≡ info_chain path
-      → ForSome known (λ (tree : Tree). file_at tree file ≡ None) → (parts : GraphParts)
-      → ArePartsOf now (λ (tree : Tree). chain_opened tree chain) (IsFromChain chain) parts
-      → ArePartsOf known (λ (tree : Tree). info_opened tree path) (IsFromInfo path) parts
-  info-chain now file chain same named called none parts of =
-      info-of_chain (λ tree is. subst (λ (f : List ℕ). file_at tree f ≡ None) named (none tree is)) parts
-      (subst (λ (c : List ℕ). ArePartsOf known (λ (tree : Tree). chain_opened tree c) (IsFromChain c) parts) called
-      (subst (λ (k : Option Tree). ArePartsOf k (λ (tree : Tree). chain_opened tree chain) (IsFromChain chain) parts) same of))
-
   -- what stands at the path
   pub path-as : (standing : Standing) (IsFrom : List Layer → Type 0)
       → ForSome known (λ (tree : Tree). standing ≡ standing_at tree path)
-      → ((layers : List Layer) → IsFrom layers → IsFromPath path layers) → (now : Option Tree) → now ≡ known
-      → (parts : GraphParts) → ArePartsOf now (λ (tree : Tree). opened_as standing tree path) IsFrom parts
+      → ((layers : List Layer) → IsFrom layers → IsFromPath path layers)
+      → (parts : GraphParts) → ArePartsOf known (λ (tree : Tree). opened_as standing tree path) IsFrom parts
       → ArePartsOf known (λ (tree : Tree). opened_at tree path) (IsFromPath path) parts
-  path-as standing IsFrom stands from now same parts of =
+  path-as standing IsFrom stands from parts of =
       parts-more known (λ (tree : Tree). opened_as standing tree path) (λ (tree : Tree). opened_at tree path) IsFrom
       (IsFromPath path)
       (λ layers tree is opens.
       ap (λ (s : Standing). opened_as s tree path) (sym (stands tree is)) ∙ opens)
-      from parts
-      (subst (λ (k : Option Tree). ArePartsOf k (λ (tree : Tree). opened_as standing tree path) IsFrom parts) same of)
+      from parts of
+
+-- an answer of the opener by parts
+abbrev answered : Type 0
+answered = Result (Result (Option GraphParts) ReadError) OpenError
+
+module _ {S : Type 0} (known : Option Tree) (path : List ℕ) (old new : ℕ) (before after : S) where
+  -- what comes of a file of an info folder is what comes of the folder, where it settles it
+  info-of-file : (answer : answered) → is_settled answer ≡ true → FilePartsCome known (info_file path) old new answer
+      → PartsCome known (λ (tree : Tree). info_opened tree path) (IsFromInfo path) old new (parts_answer answer)
+  info-of-file (Ok found) settled come = (
+    ok-some found (ArePartsOf known (λ (tree : Tree). file_opened tree (info_file path)) (IsFromFile (info_file path)))
+        (ArePartsOf known (λ (tree : Tree). info_opened tree path) (IsFromInfo path)) (info-of_file known path) come.0,
+    come.1,
+  )
+  info-of-file (Err NotOpened) settled come = cc
+  info-of-file (Err NothingFound) settled come = absurd come
+  info-of-file (Err Device) settled come = absurd come
+  info-of-file (Err (ChainNotText line)) settled come = absurd come
+  info-of-file (Err (layer_error i error)) settled come = absurd come
+  info-of-file (Err (graph_error error)) settled come = absurd come
+  info-of-file (Err OutOfMemory) settled come = absurd come
+
+  -- where there is no file, what comes of the chain is
+  info-with-none : (mid : ℕ) → ForSome known (λ (tree : Tree). file_at tree (info_file path) ≡ None) → mid ≡ old
+      → (answer : answered) → ChainPartsCome known (info_chain path) mid new answer
+      → PartsCome known (λ (tree : Tree). info_opened tree path) (IsFromInfo path) old new (parts_answer answer)
+  info-with-none mid none same (Ok found) come = (
+    ok-some found (ArePartsOf known (λ (tree : Tree). chain_opened tree (info_chain path)) (IsFromChain (info_chain path)))
+        (ArePartsOf known (λ (tree : Tree). info_opened tree path) (IsFromInfo path)) (info-of_chain known path none) come.0,
+    come.1 ∙ ap (failures_after found) same,
+  )
+  info-with-none mid none same (Err error) come = absurd come
+
+  info-after-file : (mid : ℕ) (refusal : answered) → is_settled refusal ≡ false
+      → FilePartsCome known (info_file path) old mid refusal
+      → (answer : answered) → ChainPartsCome known (info_chain path) mid new answer
+      → PartsCome known (λ (tree : Tree). info_opened tree path) (IsFromInfo path) old new (parts_answer answer)
+  info-after-file mid (Ok found) refused file answer come = cc
+  info-after-file mid (Err NotOpened) refused file answer come = info-with-none mid file.0 file.1 answer come
+  info-after-file mid (Err NothingFound) refused file answer come = absurd file
+  info-after-file mid (Err Device) refused file answer come = absurd file
+  info-after-file mid (Err (ChainNotText line)) refused file answer come = absurd file
+  info-after-file mid (Err (layer_error i error)) refused file answer come = absurd file
+  info-after-file mid (Err (graph_error error)) refused file answer come = absurd file
+  info-after-file mid (Err OutOfMemory) refused file answer come = absurd file
+
+  -- what comes of an info folder
+  pub info-parts : (answer : answered)
+      → InfoComes (λ (file : List ℕ) (from to : ℕ) (s t : S). FilePartsCome known file from to)
+      (λ (chain : List ℕ) (from to : ℕ) (s t : S). ChainPartsCome known chain from to) path old new before after answer
+      → PartsCome known (λ (tree : Tree). info_opened tree path) (IsFromInfo path) old new (parts_answer answer)
+  info-parts answer (inl come) = info-of-file answer come.0 come.1
+  info-parts answer (inr (inl come)) = info-after-file come.failures come.refusal come.refused come.file answer come.chain
+  info-parts answer (inr (inr come)) =
+      subst
+      (λ (a : answered). PartsCome known (λ (tree : Tree). info_opened tree path) (IsFromInfo path) old new (parts_answer a))
+      (sym come.0) (tt, come.1)
+
+  as-path : (standing : Standing) → ForSome known (λ (tree : Tree). standing ≡ standing_at tree path)
+      → (IsFrom : List Layer → Type 0) → ((layers : List Layer) → IsFrom layers → IsFromPath path layers)
+      → (found : Result (Option GraphParts) ReadError)
+      → PartsCome known (λ (tree : Tree). opened_as standing tree path) IsFrom old new found
+      → PartsCome known (λ (tree : Tree). opened_at tree path) (IsFromPath path) old new found
+  as-path standing stands IsFrom from found come = (
+    ok-some found (ArePartsOf known (λ (tree : Tree). opened_as standing tree path) IsFrom)
+        (ArePartsOf known (λ (tree : Tree). opened_at tree path) (IsFromPath path))
+        (path-as known path standing IsFrom stands from) come.0,
+    come.1,
+  )
+
+  path-of-file : ForSome known (λ (tree : Tree). File ≡ standing_at tree path) → (answer : answered)
+      → FilePartsCome known path old new answer
+      → PartsCome known (λ (tree : Tree). opened_at tree path) (IsFromPath path) old new (parts_answer answer)
+  path-of-file stands (Ok found) come = as-path File stands (IsFromFile path) (λ layers from. inl from) found come
+  path-of-file stands (Err NotOpened) come = (tt, come.1)
+  path-of-file stands (Err NothingFound) come = absurd come
+  path-of-file stands (Err Device) come = absurd come
+  path-of-file stands (Err (ChainNotText line)) come = absurd come
+  path-of-file stands (Err (layer_error i error)) come = absurd come
+  path-of-file stands (Err (graph_error error)) come = absurd come
+  path-of-file stands (Err OutOfMemory) come = absurd come
+
+  path-of-chain : ForSome known (λ (tree : Tree). ChainDir ≡ standing_at tree path) → (answer : answered)
+      → ChainPartsCome known path old new answer
+      → PartsCome known (λ (tree : Tree). opened_at tree path) (IsFromPath path) old new (parts_answer answer)
+  path-of-chain stands (Ok found) come = as-path ChainDir stands (IsFromChain path) (λ layers from. inr (inl from)) found come
+  path-of-chain stands (Err error) come = absurd come
+
+  path-standing : (standing : Standing) → ForSome known (λ (tree : Tree). standing ≡ standing_at tree path)
+      → (answer : answered)
+      → StandingComes standing (λ (file : List ℕ) (from to : ℕ) (s t : S). FilePartsCome known file from to)
+      (λ (chain : List ℕ) (from to : ℕ) (s t : S). ChainPartsCome known chain from to) path old new before after answer
+      → PartsCome known (λ (tree : Tree). opened_at tree path) (IsFromPath path) old new (parts_answer answer)
+  path-standing File stands answer come = path-of-file stands answer come
+  path-standing ChainDir stands answer come = path-of-chain stands answer come
+  path-standing InfoDir stands answer come =
+      as-path InfoDir stands (IsFromInfo path) (λ layers from. inr (inr from)) (parts_answer answer) (info-parts answer come)
+  path-standing Nothing stands answer come =
+      subst
+      (λ (a : answered). PartsCome known (λ (tree : Tree). opened_at tree path) (IsFromPath path) old new (parts_answer a))
+      (sym come.0) (tt, come.1)
+
+  -- what comes of a path
+  pub path-parts : (answer : answered)
+      → PathComes known (λ (file : List ℕ) (from to : ℕ) (s t : S). FilePartsCome known file from to)
+      (λ (chain : List ℕ) (from to : ℕ) (s t : S). ChainPartsCome known chain from to) path old new before after answer
+      → PartsCome known (λ (tree : Tree). opened_at tree path) (IsFromPath path) old new (parts_answer answer)
+  path-parts answer (inl come) = path-standing come.0 come.1 answer come.2
+  path-parts answer (inr come) =
+      subst
+      (λ (a : answered). PartsCome known (λ (tree : Tree). opened_at tree path) (IsFromPath path) old new (parts_answer a))
+      (sym come.0) (tt, come.1)

@@ -1,6 +1,6 @@
 //! Opening a graph by parts.
 
-ghost use Rattle.std.specs.Prelude.{◌≡◌, All, IfErr, IfOk, IfSome, IsErrOf, None, false};
+ghost use Rattle.std.specs.Prelude.{◌≡◌, All, IfErr, IfOk, IfSome, IsErrOf, None};
 ghost use Rattle.std.specs.Option.{ForSome};
 ghost use Rattle.graph_folder.specs.Tree.{file_at};
 ghost use Rattle.graph_folder.specs.Failures.{failures_after};
@@ -8,13 +8,12 @@ ghost use Rattle.gix_commitgraph.specs.OpenAlways.{IsFromChain, IsFromFile, IsFr
 ghost use Rattle.gix_commitgraph.specs.OpenAlways.{IsFromPath};
 ghost use Rattle.gix_commitgraph.specs.Opening.{chain_opened, file_opened, info_opened};
 ghost use Rattle.graph_find.specs.ReadHead.{IsHead};
-ghost use Rattle.graph_parts.specs.PathOpening.{opened_at};
+ghost use Rattle.graph_parts.specs.PathOpening.{opened_at, parts_answer};
 ghost use Rattle.graph_parts.specs.Shown.{ArePartsOf, AreUnread};
 
 use crate::layer::LayerParts;
 use crate::parts::GraphParts;
-use gix_commitgraph::opening::path::{info_chain_path, info_file_path};
-use gix_commitgraph::opening::{Standing, stands_at};
+use gix_commitgraph::opening::{OpenError, Opener, open_by, open_info_by};
 use graph_find::chain::{ChainLayer, make_graph, read_layers};
 use graph_find::reading::read_head;
 use graph_folder::folder::{Folder, ReadError};
@@ -98,20 +97,7 @@ pub fn open_info_parts<T: Folder>(
     ensures failures { T.failure_count folder.new
         ≡ failures_after result (T.failure_count folder.old) }
 {
-    let file = info_file_path(alloc, path).map_err(|_| ReadError::OutOfMemory)?;
-    let answer = open_file_parts(alloc, folder, file.as_str());
-    if is_opened(&answer) {
-        return answer;
-    }
-    let chain = info_chain_path(alloc, path).map_err(|_| ReadError::OutOfMemory)?;
-    open_chain_parts(alloc, folder, chain.as_str())
-}
-
-/// Whether the answer is not that the file was not opened.
-fn is_opened(answer: &Result<Option<GraphParts>, ReadError>) -> bool
-    ensures { result ≡ false → IsErrOf answer.now ReadError.NotOpened }
-{
-    !matches!(answer, Err(ReadError::NotOpened))
+    parts_of_answer(open_info_by(alloc, folder, path, &mut PartOpener))
 }
 
 /// The parts of what stands at the path: of a file as [`open_file_parts`] has them, of a folder in
@@ -133,14 +119,63 @@ pub fn open_parts<T: Folder>(
     ensures failures { T.failure_count folder.new
         ≡ failures_after result (T.failure_count folder.old) }
 {
-    let Ok(standing) = stands_at(alloc, folder, path) else {
-        return Err(ReadError::OutOfMemory);
-    };
-    match standing {
-        Standing::File => open_file_parts(alloc, folder, path),
-        Standing::ChainDir => open_chain_parts(alloc, folder, path),
-        Standing::InfoDir => open_info_parts(alloc, folder, path),
-        Standing::Nothing => Ok(None),
+    parts_of_answer(open_by(alloc, folder, path, &mut PartOpener))
+}
+
+/// Opens files and chain folders by parts. Only where no file is opened is the chain folder of an
+/// info folder tried.
+#[derive(Drop)]
+struct PartOpener;
+
+impl Opener for PartOpener {
+    ghost use Rattle.std.specs.Prelude.{⊤};
+    ghost use Rattle.graph_parts.specs.PathOpening.{ChainPartsCome, FilePartsCome};
+
+    type Opened = Result<Option<GraphParts>, ReadError>;
+
+    ghost Known = { ⊤ };
+
+    ghost known = { λ _. tt };
+
+    ghost is_ready = { λ _. ⊤ };
+
+    ghost of_file = { λ _ known path old new _ _. FilePartsCome known path old new };
+
+    ghost of_chain = { λ _ known path old new _ _. ChainPartsCome known path old new };
+
+    fn file<T: Folder>(
+        &mut self,
+        alloc: Global,
+        folder: &mut T,
+        path: &str,
+    ) -> Result<Result<Option<GraphParts>, ReadError>, OpenError> {
+        match open_file_parts(alloc, folder, path) {
+            Err(ReadError::NotOpened) => Err(OpenError::NotOpened),
+            answer => Ok(answer),
+        }
+    }
+
+    fn chain<T: Folder>(
+        &mut self,
+        alloc: Global,
+        folder: &mut T,
+        path: &str,
+    ) -> Result<Result<Option<GraphParts>, ReadError>, OpenError> {
+        Ok(open_chain_parts(alloc, folder, path))
+    }
+}
+
+/// The answer of what was opened by parts. Where nothing stands at the path, it is `None`.
+fn parts_of_answer(
+    answer: Result<Result<Option<GraphParts>, ReadError>, OpenError>,
+) -> Result<Option<GraphParts>, ReadError>
+    ensures { result ≡ parts_answer answer }
+{
+    match answer {
+        Ok(answer) => answer,
+        Err(OpenError::NotOpened) => Err(ReadError::NotOpened),
+        Err(OpenError::OutOfMemory) => Err(ReadError::OutOfMemory),
+        Err(_) => Ok(None),
     }
 }
 
