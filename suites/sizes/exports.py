@@ -208,8 +208,9 @@ def base_id_at(asked):
 
 
 def sample(asked):
-    """Some commits of all layers."""
-    return asked.order[:: max(1, asked.shape.count // MANY)]
+    """Some commits of all layers, as many of each shape that has as many."""
+    count, number = asked.shape.count, min(MANY, asked.shape.count)
+    return [asked.order[place * count // number] for place in range(number)]
 
 
 def lookup(asked):
