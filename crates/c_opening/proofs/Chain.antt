@@ -4,7 +4,7 @@ use Rattle.std.proofs.Common.{IfSome, slice_get, get_or, refl, sym, ap, subst, a
 use Rattle.std.specs.Str.{IsUtf8}
 use Rattle.std.specs.List.{cons_option}
 use Rattle.std.proofs.lemmas.List.Elements.{All-tail}
-use Rattle.std.proofs.lemmas.Option.{none-some, same_Some, slice_get-get_or, slice_get_within, get_or_from_slice_get}
+use Rattle.std.proofs.lemmas.Option.{none-some, same_Some, slice_get-get_or, get_or_from_slice_get}
 use Rattle.graph_format.specs.Layer.{Layer, IsLayer}
 use Rattle.graph_format.specs.Refusal.{refusal}
 use Rattle.graph_format.specs.declared.error.FileError.TheVariants as file
