@@ -8,22 +8,23 @@
  * - A pointer is valid for the length beside it. Beside a length of 0 it may be NULL (this is tested; the proofs speak of pointers
  *   that are not null). No other pointer may be NULL. What a call writes overlaps neither what it reads nor what else it writes, and
  *   what it reads does not change until it returns (a mapped file can change: see cg_open).
- * - A cg_graph is CG_CLOSED, or what cg_open, cg_open_lent, cg_open_known, cg_open_checked, cg_check or cg_check_within wrote, or a
- *   copy of that. All copies are one graph. Nobody looks into it or changes it. cg_close, cg_check and cg_check_within take the
- *   graph that they are handed, and leave CG_CLOSED where it was, also where a check refuses it: to close that once more does
- *   nothing. No other copy of the graph is used after that.
+ * - A cg_graph is CG_CLOSED, or what a call cg_open.., cg_check or cg_check_within wrote, or a copy of that. All copies are one
+ *   graph. Nobody looks into it or changes it. cg_close, cg_check and cg_check_within take the graph that they are handed, and leave
+ *   CG_CLOSED where it was, also where a check refuses it: to close that once more does nothing. No other copy of the graph is used
+ *   after that.
  * - Threads: any number of calls may read one graph at a time, and none waits for another. cg_close, or cg_check, or
  *   cg_check_within, is called when no call on the graph is running.
- * - No call keeps a pointer that it was given, but cg_open_lent those to the bytes. No call is made from a signal handler, or in
- *   the child of a process with threads before it execs. Memory comes from malloc, realloc and free.
+ * - No call keeps a pointer that it was given, but cg_open_lent and cg_open_chain those to the bytes. No call is made from a signal
+ *   handler, or in the child of a process with threads before it execs. Memory comes from malloc, realloc and free.
  * - What an out parameter holds before a call does not matter, but for the cg_graph, the cg_bytes or the cg_flag that a call hands
  *   out, which has to be CG_CLOSED, CG_NO_BYTES or CG_NO_FLAG, and for a cg_lent, which has to be CG_NOT_LENT or what was lent before.
  * - Where a call answers a code, CG_OK, 0, is a full answer, and any other the number of the cause: see CG_OK. Other codes than
  *   those that are named beside a call do not come. Calls with a graph that is CG_CLOSED answer CG_CLOSED_GRAPH, or as each says.
  *
- * Costs. Opening decodes the records and copies all bytes; cg_open_lent copies none. A check reads all of them, with a digest of each
- * file. A lookup goes over the layers from the lowest on, and searches each by halves; a call for a position finds its layer by
- * halves; one for a layer counts those below it. Writing into a room costs what is written. Comments say where a call costs more.
+ * Costs. Opening decodes the records and copies all bytes; cg_open_lent and cg_open_chain copy none, and the latter decodes a file
+ * once that is several layers. A check reads all of them, with a digest of each layer. A lookup goes over the layers from the lowest
+ * on, and searches each by halves; a call for a position finds its layer by halves; one for a layer counts those below it. Writing
+ * into a room costs what is written. Comments say where a call costs more.
  *
  * The library is for x86-64 Linux. Link with libcommitgraph.a or libcommitgraph.so.1; memory comes from the program's malloc.
  * Until version 1.0, a program is built with the header of the library that it is linked with: calls, structs and numbers may
@@ -199,6 +200,7 @@ typedef struct cg_file { const uint8_t *bytes; size_t len; const uint8_t *path; 
  *   201 to 299          where the layers make no graph: of CG_GRAPH_HASH_MISMATCH `layer` is the first of another kind of hash
  *                       than the one below it;
  *   301 to 399          from cg_open_checked alone, where the check refuses the graph: the verdict has more;
+ *   CG_NO_SUCH_LAYER    from cg_open_chain alone, where no file is at the place of `layer`;
  *   CG_OUT_OF_MEMORY    where memory ran out at `layer`, or, if that is 0, there or once all layers were opened. No layer below
  *                       `layer` is refused, nor are its own bytes; the layers above it were not looked at.
  * `layer` is 0 elsewhere. The first refusal is told, in the order of the layers. */
@@ -223,6 +225,12 @@ CG_NODISCARD cg_error cg_open(const cg_file *files, size_t count, cg_graph *out)
  * more: a call may read outside the graph's memory. If the file gets shorter, a call may end the program by SIGBUS. So lend what
  * nobody writes, or a copy of your own. Git never changes a commit-graph file in place: it writes a new file and renames it. */
 CG_NODISCARD cg_error cg_open_lent(const cg_file *files, size_t count, cg_graph *out) CG_NONNULL((3));
+
+/* Opens the graph of a chain of which some lines may name one file, as cg_open_lent does: the layers are the files at these places,
+ * which count from 0, the lowest layer first. A file is decoded once, however many layers it is, and they share all that is kept of
+ * it. Where some place is none of the `count` files, the code is CG_NO_SUCH_LAYER for the first such layer, and no file is looked at. */
+CG_NODISCARD cg_error cg_open_chain(const cg_file *files, size_t count, const uint64_t *places, size_t layers,
+                                    cg_graph *out) CG_NONNULL((5));
 
 /* What cg_open_known is to open. */
 enum cg_place { CG_ANYTHING = 0, CG_FILE = 1, CG_CHAIN_FOLDER = 2, CG_INFO_FOLDER = 3 };

@@ -769,6 +769,27 @@ static bool same_lent(const cg_file *files, size_t files_count) {
     return cg_close(&copied) && good;
 }
 
+/* Whether a chain in which each file stands twice, all in order and then once more, is opened as by cg_open, and is refused as it is;
+ * and a place that has no file, by its layer. */
+static bool same_chain(const cg_file *files, size_t files_count) {
+    cg_file repeated[2 * LAYERS];
+    uint64_t places[2 * LAYERS] = { 0 };
+    for (size_t i = 0; i < 2 * files_count; i++) {
+        places[i] = i % files_count;
+        repeated[i] = files[places[i]];
+    }
+    cg_graph copied = CG_CLOSED, opened = CG_CLOSED;
+    cg_error error = cg_open(repeated, 2 * files_count, &copied);
+    cg_error told = cg_open_chain(files, files_count, places, 2 * files_count, &opened);
+    bool good = told.code == error.code && told.layer == error.layer && opened.opened == copied.opened && same_layers(opened, copied);
+    cg_close(&copied);
+    cg_close(&opened);
+    if (!files_count) return good && told.code == CG_GRAPH_NO_FILES;
+    places[files_count] = files_count;
+    told = cg_open_chain(files, files_count, places, 2 * files_count, &opened);
+    return good && told.code == CG_NO_SUCH_LAYER && told.layer == files_count && is_closed(&opened);
+}
+
 /* What stands at a path. */
 static cg_known look(const char *path, size_t len) {
     cg_known known = { path, len, NULL_BYTES, 0, CG_NOTHING };
@@ -875,7 +896,7 @@ int main(int argc, char **argv) {
     bool asks = strchr("ab", argv[2][0]) || !strcmp(argv[2], "parents");
     cg_error error = asks ? cg_open_checked(files, count, false, &verdict, counts, 1, &graph) : cg_open(files, count, &graph);
     if (!error.code && !same_checked(files, count, graph)) return 9;
-    if (!same_lent(files, count)) return 9;
+    if (!same_lent(files, count) || !same_chain(files, count)) return 9;
     size_t path = chain ? (size_t)(chain - argv[1]) : strlen(argv[1]);
     for (uint32_t what = CG_ANYTHING, step = chain ? CG_CHAIN_FOLDER : CG_FILE; error.code < 300 && what <= step; what += step)
         if (!same_at(argv[1], path, what, error, graph)) return 9;

@@ -180,6 +180,18 @@ static void stop(const cg_file *file, cg_graph graph, cg_pair pair) {
     agree(cg_flag_free(&flag));
 }
 
+/* A chain in which the file stands as many times as its commits would fit a graph at all: each layer has the first id. */
+static void repeat(const cg_file *file, cg_graph graph) {
+    uint32_t count = cg_num_commits(graph), layers = 1800000000 / count;
+    uint64_t *places = room(layers, sizeof *places);
+    memset(places, 0, layers * sizeof *places);
+    cg_graph opened = CG_CLOSED;
+    agree(!cg_open_chain(file, 1, places, layers, &opened).code && cg_num_commits(opened) == layers * count);
+    cg_lent first = CG_NOT_LENT, last = CG_NOT_LENT;
+    agree(cg_lend_id(opened, 0, &first) && cg_lend_id(opened, (layers - 1) * count, &last) && first.bytes == last.bytes);
+    agree(cg_close(&opened));
+}
+
 /* A text of many lines, each of one letter. */
 static void read_lines(uint32_t count) {
     size_t len = 2 * (size_t)count, start = 0;
@@ -258,6 +270,7 @@ static void tell(const cg_file *layer, cg_graph graph, cg_graph checked, const c
     tell_chunks(graph, file, count);
     tell_walk(checked, file, *first_pair);
     stop(layer, checked, *first_pair);
+    repeat(layer, checked);
     tell_pairs(checked, file, first_pair, pairs);
     asked += 1 + 2 * (size_t)pairs;
     tell_bases(checked, file, asked[0], asked + 2, asked[1]);

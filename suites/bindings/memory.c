@@ -87,6 +87,15 @@ static outcome open_lent(void) {
     return opening(error, opened);
 }
 
+/* A chain in which each file stands twice. */
+static outcome open_chain(void) {
+    cg_graph opened = { files, false };
+    uint64_t places[2 * LAYERS];
+    for (size_t i = 0; i < 2 * layers; i++) places[i] = i % layers;
+    cg_error error = cg_open_chain(files, layers, places, 2 * layers, &opened);
+    return opening(error, opened);
+}
+
 /* Bytes that do not begin as a layer does: they are not copied. */
 static outcome open_wrong(void) {
     static uint8_t wrong[BYTES];
@@ -391,6 +400,7 @@ int main(int argc, char **argv) {
     to = position_of(argv[2]);
     printf("open %ld\n", refusals("open", open_graph));
     printf("open_lent %ld\n", refusals("open_lent", open_lent));
+    printf("open_chain %ld\n", refusals("open_chain", open_chain));
     printf("open_wrong %ld\n", refusals("open_wrong", open_wrong));
     printf("open_checked %ld\n", refusals("open_checked", open_checked));
     printf("open_known %ld\n", refusals("open_known", open_known));

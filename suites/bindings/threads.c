@@ -19,12 +19,15 @@ static uint32_t opened(void) {
     const char *path = (const char *)file.path;
     cg_known known = { path, file.path_len, file.bytes, file.len, CG_READ };
     cg_error error = cg_open_lent(&file, 1, &own);
+    cg_graph twice = CG_CLOSED;
+    cg_error again = cg_open_chain(&file, 1, (const uint64_t[]){ 0, 0 }, 2, &twice);
     char room[1];
     cg_path_error told = cg_open_known(path, file.path_len, CG_ANYTHING, &known, 1, room, 1, &other);
-    uint32_t count = cg_num_commits(own) + cg_check(&other, true, &verdict, counts, 1, &checked) + cg_num_commits(checked);
+    uint32_t count = cg_num_commits(own) + cg_num_commits(twice) + cg_check(&other, true, &verdict, counts, 1, &checked) + cg_num_commits(checked);
     cg_close(&own);
+    cg_close(&twice);
     cg_close(&checked);
-    return count + error.code + told.code;
+    return count + error.code + again.code + told.code;
 }
 
 /* The sum of the bytes of a layer with one new commit on top of the graph. */

@@ -20,8 +20,9 @@ def layers(size):
 
 
 def alike(size):
-    """A chain of `size` layers, in which all ids begin with the same byte, so that each is looked for in each layer."""
-    return chain(KIND, size, 4, others=16, ids=partial(with_front, b"\x77"))
+    """A chain of `size` layers, in which all ids begin with the same byte, so that each is looked for in each layer. They rise with the
+    layers: how many ids of a layer are read before one is not found does not depend on which one it is."""
+    return chain(KIND, size, 4, others=16, ids=rising)
 
 
 def parents(size):
@@ -53,6 +54,11 @@ def steps(size):
 def with_front(front, number):
     """An id with these bytes at its front."""
     return front + (number * 2_654_435_761 % 2**32).to_bytes(4, "big") + bytes(ID_SIZE[KIND] - len(front) - 4)
+
+
+def rising(number):
+    """An id that is above those of all numbers before."""
+    return b"\x77" + (number + 1).to_bytes(ID_SIZE[KIND] - 1, "big")
 
 
 def uneven(number):

@@ -110,6 +110,21 @@ def opening(call):
     return opens
 
 
+def open_chain(asked, times=1):
+    """Opens the graph of a chain that names each file so many times, one file after another, and counts what it has."""
+    places = [place for _ in range(times) for place in range(len(asked.files))]
+    graph, numbers = asked.new("cg_graph"), (ctypes.c_uint64 * len(places))(*places)
+    error = asked.library.cg_open_chain(asked.files, len(asked.files), numbers, len(places), ctypes.byref(graph))
+    seen = told(error), asked.library.cg_num_commits(graph), asked.library.cg_num_layers(graph)
+    asked.library.cg_close(ctypes.byref(graph))
+    return seen, ((0, 0), times * asked.shape.count, len(places))
+
+
+def open_repeated(asked):
+    """Opens one that names each file many times."""
+    return open_chain(asked, MANY)
+
+
 def open_known(asked):
     """Opens the highest layer alone, by what is known of its path."""
     files, graph, known, path = asked.files, asked.new("cg_graph"), asked.new("cg_known"), asked.room("uint8_t", 1)
@@ -208,8 +223,9 @@ def base_id_at(asked):
 
 
 def sample(asked):
-    """Some commits of all layers."""
-    return asked.order[:: max(1, asked.shape.count // MANY)]
+    """Some commits of all layers, as many of each shape that has as many."""
+    count, number = asked.shape.count, min(MANY, asked.shape.count)
+    return [asked.order[place * count // number] for place in range(number)]
 
 
 def lookup(asked):

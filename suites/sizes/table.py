@@ -196,6 +196,8 @@ CALLS = (
     Row("cg_version", EACH, lambda asked: (asked.library.cg_version(), asked.library.version)),
     Row("cg_open", EACH, exports.opening("cg_open")),
     Row("cg_open_lent", EACH, exports.opening("cg_open_lent")),
+    Row("cg_open_chain", EACH, exports.open_chain),
+    Row("cg_open_chain: many", EACH, exports.open_repeated),
     Row("cg_open_known", EACH, exports.open_known),
     Row("cg_open_checked", EACH, exports.open_checked),
     Row("cg_check", EACH, exports.check),

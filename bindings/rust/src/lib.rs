@@ -33,6 +33,7 @@ mod limit;
 mod many;
 mod open;
 mod refused;
+mod repeated;
 mod room;
 mod sys;
 mod verify;
@@ -211,9 +212,17 @@ impl Graph {
     ///
     /// The bytes lie where they are, and stay as they are, until the graph is dropped.
     pub(crate) unsafe fn lend(layers: &[(&[u8], &str)]) -> Result<Graph, OpenError> {
+        let (firsts, places) = repeated::firsts_and_places(layers).map_err(|_| OpenError::OutOfMemory)?;
         let (mut graph, _) = Graph::opened(layers, |files, raw, _| {
-            // SAFETY: as in `of_bytes`; and the caller promises that the bytes stay.
-            unsafe { sys::cg_open_lent(files.as_ptr(), files.len(), raw) }
+            if firsts.len() == files.len() {
+                // SAFETY: as in `of_bytes`; and the caller promises that the bytes stay.
+                return unsafe { sys::cg_open_lent(files.as_ptr(), files.len(), raw) };
+            }
+            let Ok(files) = collected(firsts.iter().map(|&first| files[first])) else {
+                return sys::Error { code: codes::OUT_OF_MEMORY, layer: 0 };
+            };
+            // SAFETY: the same of fewer files, and of the places.
+            unsafe { sys::cg_open_chain(files.as_ptr(), files.len(), places.as_ptr(), places.len(), raw) }
         })?;
         // SAFETY: the caller promises it.
         let bytes = layers.iter().map(|(bytes, _)| unsafe { Bytes::lent(bytes) });

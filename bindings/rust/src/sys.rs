@@ -276,6 +276,7 @@ extern "C" {
     pub fn cg_version() -> u32;
     pub fn cg_open(files: *const File, count: usize, out: *mut Graph) -> Error;
     pub fn cg_open_lent(files: *const File, count: usize, out: *mut Graph) -> Error;
+    pub fn cg_open_chain(files: *const File, count: usize, places: *const u64, layers: usize, out: *mut Graph) -> Error;
     pub fn cg_open_known(
         path: *const u8,
         path_len: usize,

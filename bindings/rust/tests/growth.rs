@@ -2,8 +2,8 @@
 
 mod made;
 
-use commitgraph::{Graph, Place};
-use made::{chain_of_lines, grows_with_its_size, long_lists, nested_lists};
+use commitgraph::{Graph, LayerFile, Place};
+use made::{chain_of_lines, chain_of_one, grows_with_its_size, long_lists, nested_lists};
 use std::path::{Path, PathBuf};
 
 /// A chain of so many lines in a folder of the build.
@@ -21,6 +21,20 @@ fn a_chain_of_many_lines_is_opened_line_by_line() {
 }
 
 #[test]
+fn a_file_is_decoded_once_for_all_lines() {
+    let make = |size| {
+        let at = chain("decoded", size, true);
+        chain_of_one(&at, size);
+        at
+    };
+    grows_with_its_size(4_000, make, |at: &PathBuf| drop(Graph::at(at).unwrap()));
+    let files = |size| vec![LayerFile { path: PathBuf::new(), bytes: long_lists(size as u32).into() }; size];
+    grows_with_its_size(4_000, files, |files: &Vec<LayerFile>| drop(Graph::of_files(files.clone()).unwrap()));
+    let lend = |size| long_lists(size as u32);
+    grows_with_its_size(4_000, lend, |bytes: &Vec<u8>| drop(Graph::of_lent(&vec![(&bytes[..], ""); bytes.len() / 64]).unwrap()));
+}
+
+#[test]
 fn a_chain_is_refused_line_by_line() {
     let make = |lines| {
         let at = chain("refused", lines, false);
@@ -33,7 +47,7 @@ fn a_chain_is_refused_line_by_line() {
 #[test]
 fn lists_of_parents_are_checked_once_for_all_commits() {
     for lists in [long_lists, nested_lists] {
-        let open = |commits| Graph::of_files(vec![commitgraph::LayerFile { path: PathBuf::new(), bytes: lists(commits as u32).into() }]).unwrap();
+        let open = |commits| Graph::of_files(vec![LayerFile { path: PathBuf::new(), bytes: lists(commits as u32).into() }]).unwrap();
         grows_with_its_size(5_000, open, |graph: &Graph| assert!(graph.layer(0).unwrap().verify().is_ok()));
     }
 }

@@ -1,6 +1,7 @@
 mod AsBox
 mod AtPath
 mod Called
+mod Chain
 mod Crossing
 mod Files
 mod KnownAnswers

@@ -1,5 +1,6 @@
 pub mod Answers
 pub mod AtPath
+pub mod Chain
 pub mod Codes
 pub mod Files
 pub mod Held

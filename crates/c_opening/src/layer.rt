@@ -1,6 +1,6 @@
 //! Opening one file for C, whose bytes are copied or stay where they are.
 
-ghost use Rattle.std.specs.Prelude.{◌≡◌, ◌≢◌, IfErr, IfOk, None, string_bytes};
+ghost use Rattle.std.specs.Prelude.{◌≡◌, ◌≢◌, IfErr, IfOk, IfSome, None, string_bytes};
 ghost use Rattle.std.specs.Str.{IsUtf8};
 ghost use Rattle.graph_format.specs.Layer.{IsLayer};
 ghost use Rattle.graph_format.specs.Refusal.{refusal};
@@ -10,6 +10,7 @@ use crate::codes::PATH_NOT_UTF8;
 use crate::open::{CgError, CgFile, error, file_error};
 use gix_commitgraph::{File, FileError};
 use graph_format::layout::layout_of;
+use graph_layer::opening::share_layer;
 use std::alloc::{AllocError, Global};
 
 /// Opens a file, which is to be the layer of this place, with a copy of its bytes.
@@ -51,6 +52,32 @@ pub(crate) fn open_lent_layer(
     match File::from_static(alloc, file.bytes, path) {
         Ok(file) => Ok(file),
         Err(refusal) => Err(file_error(&refusal, place)),
+    }
+}
+
+/// Opens a file as `open_lent_layer` does, or has the layer once more that is known to be its own:
+/// then nothing is decoded, and both share all that is kept.
+#[tactic(auto, using(crate::proofs::Files::refused_bytes))]
+pub(crate) fn open_known_layer(
+    alloc: Global,
+    file: CgFile<'static>,
+    known: Option<&File>,
+    place: u64,
+) -> Result<File, CgError>
+    requires { IfSome known (λ layer. IsLayer file.bytes.now file.path.now layer.now) }
+    ensures layer { IfOk result (IsLayer file.entry.bytes.now file.entry.path.now) }
+    ensures text { IfOk result (λ _. IsUtf8 file.entry.path.now) }
+    ensures accepted { IfOk result (λ _. refusal file.entry.bytes.now ≡ None) }
+    ensures refused { IfErr result (RefusesFile place file.entry) }
+    ensures code { IfErr result (λ e. e.code ≢ 0) }
+{
+    let Some(layer) = known else {
+        return open_lent_layer(alloc, file, place);
+    };
+    path_of(file, place)?;
+    match share_layer(layer) {
+        Ok(layer) => Ok(layer),
+        Err(_) => Err(file_error(&FileError::OutOfMemory, place)),
     }
 }
 

@@ -19,6 +19,7 @@ mod kept_handle;
 mod known;
 mod layer;
 mod open;
+mod open_chain;
 mod opened;
 pub mod paths;
 pub mod read;
@@ -33,6 +34,7 @@ pub use kept::Kept;
 pub use kept_handle::{CgBytes, CgBytesAddress, CgBytesOwned, CgBytesOwner};
 pub use known::CgKnown;
 pub use open::{CgError, CgFile, cg_check, cg_close, cg_open, cg_open_checked, cg_open_lent};
+pub use open_chain::cg_open_chain;
 pub use opened::Opened;
 pub use paths::{CgPathError, cg_open_known};
 pub use read::{

@@ -78,7 +78,7 @@ pub fn cg_open_lent(alloc: Global, files: &[CgFile<'static>], out: &mut CgOwner)
 }
 
 /// Writes a graph that was not checked, unless there is no memory for its block.
-fn write_unchecked(alloc: Global, graph: Graph, out: &mut CgOwner) -> CgError
+pub(crate) fn write_unchecked(alloc: Global, graph: Graph, out: &mut CgOwner) -> CgError
     ensures opened { result.code ≡ 0 → out.new.address.held ≡ Some (graph, false) }
     ensures told { result.code ≡ 0 → result ≡ no_error }
     ensures refused { result.code ≢ 0 → result ≡ told_graph GraphError.OutOfMemory }
@@ -288,7 +288,7 @@ pub(crate) fn file_error(refusal: &FileError, layer: u64) -> CgError
 }
 
 /// Tells why layers make no graph.
-fn graph_error(refusal: &GraphError) -> CgError
+pub(crate) fn graph_error(refusal: &GraphError) -> CgError
     ensures told { result ≡ told_graph refusal.now }
     ensures code { result.code ≢ 0 }
 {
@@ -300,7 +300,7 @@ fn graph_error(refusal: &GraphError) -> CgError
 }
 
 /// Adds a layer, if there is memory.
-fn add(layers: &mut Vec<File>, layer: File, place: u64) -> Result<(), CgError>
+pub(crate) fn add(layers: &mut Vec<File>, layer: File, place: u64) -> Result<(), CgError>
     ensures items { OnOk result (layers.new.items ≡ layers.old.items ++ layer ∷ []) }
     ensures error { IfErr result (λ e. e ≡ told_file place FileError.OutOfMemory) }
     ensures code { IfErr result (λ e. e.code ≢ 0) }

@@ -4,7 +4,7 @@
 mod made;
 
 use gix_commitgraph::{at, file, File, Graph};
-use made::{chain_of_lines, grows_with_its_size, long_lists, nested_lists};
+use made::{chain_of_lines, chain_of_one, grows_with_its_size, long_lists, nested_lists};
 use std::collections::HashMap;
 use std::path::{Path, PathBuf};
 use std::sync::Arc;
@@ -21,6 +21,16 @@ fn a_chain_of_many_lines_is_opened_line_by_line() {
         folder
     };
     grows_with_its_size(16_000, make, |folder| assert!(at(folder).unwrap().num_commits() > 0));
+}
+
+#[test]
+fn a_file_is_decoded_once_for_all_lines() {
+    let make = |size| {
+        let folder = Path::new(env!("CARGO_TARGET_TMPDIR")).join(format!("decoded {size}"));
+        chain_of_one(&folder, size);
+        folder
+    };
+    grows_with_its_size(4_000, make, |folder| assert!(at(folder).unwrap().num_commits() > 0));
 }
 
 #[test]

@@ -163,6 +163,12 @@ pub fn chain_of_lines(at: &Path, lines: usize, is_one: bool) {
     fs::write(at.join("commit-graph-chain"), (0..lines).map(|line| format!("{}\n", name(line))).collect::<String>()).unwrap();
 }
 
+/// A chain in a folder, of which so many lines name one file with as many commits.
+pub fn chain_of_one(at: &Path, size: usize) {
+    chain_of_lines(at, size, true);
+    fs::write(at.join("graph-0.graph"), long_lists(size as u32)).unwrap();
+}
+
 extern "C" {
     fn clock_gettime(clock: i32, out: *mut [i64; 2]) -> i32;
 }
