@@ -109,7 +109,7 @@ HistorytoolMayWrite (command.Check path) input unread IsLeftAlone MayOpenAt befo
 HistorytoolMayWrite (command.Show path) input unread IsLeftAlone MayOpenAt before after old new status =
     WritesAnswer show_text show_status (MayShow (MayOpenAt path.now before after)) old new status
 HistorytoolMayWrite (command.Ask path) input unread IsLeftAlone MayOpenAt before after old new status =
-    WritesAnswer ask_text ask_status (MayAsk (MayOpenAt path.now) before after input unread) old new status
+    WritesAnswer ask_text ask_status (MayAsk (λ _. MayOpenAt path.now) before after input unread) old new status
 HistorytoolMayWrite (command.AskUnchecked path) input unread IsLeftAlone MayOpenAt before after old new status =
     WritesAnswer trusted_text trusted_status (MayAskTrusted (MayOpenAt path.now) before after input unread) old new status
 HistorytoolMayWrite (command.Ids path range) input unread IsLeftAlone MayOpenAt before after old new status =

@@ -8,8 +8,10 @@ ghost use Rattle.historytool.specs.HistorytoolCommands.{TellsOf};
 ghost use Rattle.answer_lines.specs.declared.reply.Form.TheVariants.{Whole, IdsAlone};
 ghost use Rattle.question_lines.specs.declared.question.Name.TheVariants as named;
 ghost use Rattle.graph_commands.specs.OpenerAnswer.{MayOpen};
+ghost use Rattle.graph_commands.specs.WrittenAnswer.{WritesAnswer};
 ghost use Rattle.object_commands.specs.AskedRange.{SpellsRange};
 ghost use Rattle.object_commands.specs.declared.range.PositionRange as declared;
+ghost use Rattle.question_commands.specs.Asking.{MayAsk, ask_status, ask_text};
 ghost use Rattle.historytool.specs.declared.command.Command.{Command};
 
 use graph_commands::line::{WriteFailed, write_line};
@@ -21,6 +23,7 @@ use history_commands::run::{
 };
 use object_commands::{PositionRange, run_ids, run_objects};
 use question_commands::asking::run_ask;
+use question_commands::others::Nobody;
 use show_commands::run::run_show;
 use std::alloc::Global;
 use std::io::{Read, Write};
@@ -374,7 +377,7 @@ impl Run for Command<'_> {
             Command::MergeBaseIds { group } => group.base_ids(alloc, folder, output),
             Command::Check { path } => run_check(alloc, folder, path, output),
             Command::Show { path } => run_show(alloc, folder, path, output),
-            Command::Ask { path } => Ok(run_ask(alloc, input, folder, path, output)?.status),
+            Command::Ask { path } => answer_questions(alloc, input, folder, path, output),
             Command::AskUnchecked { path } => run_ask_unchecked(alloc, input, folder, path, output),
             Command::Ids { path, range } => run_ids(alloc, folder, path, range, output),
             Command::Objects { path, range } => {
@@ -384,6 +387,25 @@ impl Run for Command<'_> {
             Command::Merge { path } => run_merge(alloc, folder, path, output),
         }
     }
+}
+
+/// Runs `ask`, and answers the exit status. `WriteFailed` comes where the output fails.
+fn answer_questions<R: Read, T: Folder, W: Write>(
+    alloc: Global,
+    input: &mut R,
+    folder: &mut T,
+    path: &str,
+    output: &mut W,
+) -> Result<u8, WriteFailed>
+    ensures written { IfOk result (WritesAnswer ask_text ask_status
+        (MayAsk (λ _. MayOpen (T.tree folder.old) path.now)
+        (T.failure_count folder.old) (T.failure_count folder.new)
+        (R.remaining input.old) (R.remaining input.new))
+        (W.contents output.old) (W.contents output.new)) }
+    ensures tree { T.tree folder.new ≡ T.tree folder.old }
+{
+    let asked = run_ask(alloc, input, folder, &mut Nobody, path, output)?;
+    Ok(asked.status)
 }
 
 impl Pair<'_> {

@@ -17,10 +17,11 @@ use Rattle.question_lines.specs.Questions.{Asks}
 use Rattle.question_lines.specs.declared.question.Question.TheVariants as question
 use Rattle.question_answers.specs.AnsweredLines.{AreAnswered, AreTold, MayBeTold, TellsStill, Told, told_text}
 use Rattle.question_answers.specs.ReadLines.{AreLinesOf, HasRead}
-use Rattle.question_answers.specs.Taken.{MayTake, Opener, end_text, end_status, taken_line}
+use Rattle.question_answers.specs.Taken.{MayTake, end_text, end_status, taken_line}
 use Rattle.question_answers.proofs.ReadLemmas.{lines_ended, lines_failed, reads_more, reads_none}
 use Rattle.question_commands.specs.Asking.{AreTurns, MayAsk, MayTurn, Reloads, Session, State}
 use Rattle.question_commands.specs.Asking.{Turn, all_checked, commits_checked, session_text, turn_text}
+use Rattle.question_commands.specs.ChangingTrees.{Openings}
 use Rattle.question_commands.specs.Ending.{EndsAsked}
 use Rattle.question_commands.specs.Proceeding.{Proceeds}
 use Rattle.question_commands.specs.declared.asking.Asked.{Asked}
@@ -30,7 +31,7 @@ all_append : {X : Type 0} (P : X → Type 0) (xs ys : List X) → AllByRecursion
 all_append P [] ys first behind = behind
 all_append P (x ∷ xs) ys first behind = (first.0, all_append P xs ys first.1 behind)
 
-module _ (MayOpen : Opener) where
+module _ (MayOpen : Openings) where
   pub turns_none : (first : State) → AreTurns MayOpen first first []
   turns_none first = record { allowed = tt; joined = refl }
 
@@ -81,7 +82,7 @@ module _ (MayOpen : Opener) where
         omega (arith, before.4, behind.4, sum_by-append (λ (t : Turn). t.checked) before.0 behind.0),
       )
 
-module _ (MayOpen : Opener) (first last : State) (input left unread old new : Option (List ℕ)) (checked counted : ℕ)
+module _ (MayOpen : Openings) (first last : State) (input left unread old new : Option (List ℕ)) (checked counted : ℕ)
     (proceeds : Proceeds MayOpen first last input left old new checked) (counts : counted ≡ min checked (2 ^ 64 - 1)) where
   -- the lines are answered
   abbrev pub Answered : Option ReadError → ℕ → Type 0
@@ -106,7 +107,7 @@ module _ (MayOpen : Opener) (first last : State) (input left unread old new : Op
       (proceeds.0, last, proceeds.1, is, lines_failed input left unread asked error proceeds.2 failed, proceeds.3, counts_all)
 
 -- what was answered over the graph that stands are turns, in which nothing is checked
-module _ (MayOpen : Opener) (standing : State) where
+module _ (MayOpen : Openings) (standing : State) where
   abbrev turn_of : Told → Turn
   turn_of one = record { line = one.line; before = standing; told = one.told; after = standing; checked = 0 }
 
@@ -162,7 +163,7 @@ module _ (MayOpen : Opener) (standing : State) where
       )
 
 -- a line was read that asks for the graph to be opened anew, and it was
-pub reloads_line : (MayOpen : Opener) (before after : State) (line told : List ℕ) (checked : ℕ)
+pub reloads_line : (MayOpen : Openings) (before after : State) (line told : List ℕ) (checked : ℕ)
     (read left old new : Option (List ℕ)) → HasRead read left (line ∷ []) → Asks line question.Reload
     → Reloads MayOpen before told checked after → Appends old new (told ++ newline)
     → Proceeds MayOpen before after read left old new checked
@@ -171,10 +172,10 @@ reloads_line MayOpen before after line told checked read left old new reads asks
     proceeds_turn MayOpen turn read left old new (inr (asks, reloads)) reads written
 
 -- the text of a session was written, and why it ended
-pub asks : (MayOpen : Opener) (before opened after : ℕ) (input unread a b c d : Option (List ℕ)) (layers : List Layer)
+pub asks : (MayOpen : Openings) (before opened after : ℕ) (input unread a b c d : Option (List ℕ)) (layers : List Layer)
     (turns : List Turn) (last : State) (failed : Option ReadError) (asked : Asked) (checked : ℕ)
-    → MayTake (MayOpen before opened) (Ok layers)
-    → AreTurns MayOpen (record { layers = layers; failures = opened }) last turns → last.failures ≡ after
+    → MayTake (MayOpen 0 before opened) (Ok layers)
+    → AreTurns MayOpen (record { layers = layers; failures = opened; reloads = 0 }) last turns → last.failures ≡ after
     → AreLinesOf input unread (map (λ (turn : Turn). turn.line) turns) failed
     → Appends a b (taken_line (Ok layers) ++ newline) → Appends b c (flat_map turn_text turns) → checked ≡ all_checked turns
     → Appends c d (end_text failed) → asked.status ≡ end_status failed → asked.checked ≡ checked
@@ -187,10 +188,10 @@ asks MayOpen before opened after input unread a b c d layers turns last failed a
       Ok session,
       (
         opened,
-        last.layers,
+        last,
         takes,
-        subst (λ (n : ℕ). AreTurns MayOpen (record { layers = layers; failures = opened })
-            (record { layers = last.layers; failures = n }) turns) is are,
+        are,
+        is,
         read,
       ),
       subst (Appends a d) text (Appends-trans a b d _ _ first (Appends-trans b c d _ _ middle end)),
@@ -199,10 +200,10 @@ asks MayOpen before opened after input unread a b c d layers turns last failed a
     )
 
 -- the same, where the reason was written, if it was
-pub asks_ended : {E : Type 0} (result : Result Asked E) (MayOpen : Opener) (before opened after : ℕ)
+pub asks_ended : {E : Type 0} (result : Result Asked E) (MayOpen : Openings) (before opened after : ℕ)
     (input unread a b c d : Option (List ℕ)) (layers : List Layer) (turns : List Turn) (last : State)
-    (failed : Option ReadError) (checked : ℕ) → MayTake (MayOpen before opened) (Ok layers)
-    → AreTurns MayOpen (record { layers = layers; failures = opened }) last turns → last.failures ≡ after
+    (failed : Option ReadError) (checked : ℕ) → MayTake (MayOpen 0 before opened) (Ok layers)
+    → AreTurns MayOpen (record { layers = layers; failures = opened; reloads = 0 }) last turns → last.failures ≡ after
     → AreLinesOf input unread (map (λ (turn : Turn). turn.line) turns) failed
     → Appends a b (taken_line (Ok layers) ++ newline) → Appends b c (flat_map turn_text turns) → checked ≡ all_checked turns
     → IfOk result (λ (asked : Asked). Appends c d (end_text failed) × (asked.status ≡ end_status failed)

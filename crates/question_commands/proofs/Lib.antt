@@ -1,2 +1,3 @@
 pub mod TakingLemmas
 pub mod AskingLemmas
+pub mod ChangingLemmas

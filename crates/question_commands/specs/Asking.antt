@@ -1,5 +1,5 @@
 -- Questions about graphs, one a line: which graph stands at each, what may be told, and what is written of the whole.
-use Rattle.std.specs.Prelude.{◌≡◌, ◌⊎◌, ℕ, ◌^◌, ◌-◌, List, [], ◌∷◌, ◌++◌, Option, Result, Ok, Err}
+use Rattle.std.specs.Prelude.{◌≡◌, ◌⊎◌, ℕ, ◌+◌, ◌^◌, ◌-◌, List, [], ◌∷◌, ◌++◌, Option, Result, Ok, Err}
 use Rattle.std.specs.Prelude.{map, min, sum_by}
 use Rattle.std.specs.List.{AllByRecursion, flat_map}
 use Rattle.graph_folder.specs.declared.folder.ReadError.{ReadError}
@@ -8,17 +8,21 @@ use Rattle.graph_commands.specs.RefusalLines.{refusal_text, refusal_status}
 use Rattle.graph_commands.specs.Text.{◌⧺◌, newline}
 use Rattle.graph_commands.specs.declared.refusal.Refusal.{Refusal}
 use Rattle.graph_history.specs.Reload.{StandAboveShared}
+use Rattle.graph_layer.specs.declared.opening.error.OpenError.{OpenError}
 use Rattle.history_commands.specs.Check.{MayRefuseToStart}
 use Rattle.question_answers.specs.AnsweredLines.{MayBeTold, TellsStill}
 use Rattle.question_answers.specs.ReadLines.{AreLinesOf}
-use Rattle.question_answers.specs.Taken.{MayTake, Opener, end_status, end_text, taken_line}
+use Rattle.question_answers.specs.Taken.{MayTake, end_status, end_text, taken_line}
+use Rattle.question_commands.specs.ChangingTrees.{Openings}
 use Rattle.question_lines.specs.Questions.{Asks}
 use Rattle.question_lines.specs.declared.question.Question.TheVariants as question
 
--- The state between two lines: the graph that answers, and how many reads of the folder's device have failed.
+-- The state between two lines: the graph that answers, how many reads of the folder's device have failed, and how many times
+-- the path was opened anew.
 pub record State : Type 0 where
   pub layers : List Layer
   pub failures : ℕ
+  pub reloads : ℕ
 
 -- A line, the state before it, what was told for it, the state after it, and how many commits were checked for it.
 pub record Turn : Type 0 where
@@ -40,21 +44,27 @@ AreChecked before (Ok layers) checked = StandAboveShared before layers checked
 AreChecked before (Err refusal) checked = checked ≡ 0
 
 -- a path is opened anew, its line is told, and so many commits are checked
-abbrev pub Reloads : Opener → State → List ℕ → ℕ → State → Type 0
+abbrev pub OpensAnew : (Result (List Layer) OpenError → Type 0) → List Layer → List ℕ → ℕ → List Layer → Type 0
+OpensAnew MayOpen before told checked after =
+    (taken : Result (List Layer) Refusal) × MayTake MayOpen taken × (told ≡ taken_line taken)
+    × (after ≡ layers_after before taken) × AreChecked before taken checked
+
+-- that is done once more, over what stands at the path then
+abbrev pub Reloads : Openings → State → List ℕ → ℕ → State → Type 0
 Reloads MayOpen before told checked after =
-    (taken : Result (List Layer) Refusal) × MayTake (MayOpen before.failures after.failures) taken × (told ≡ taken_line taken)
-    × (after.layers ≡ layers_after before.layers taken) × AreChecked before.layers taken checked
+    (after.reloads ≡ before.reloads + 1)
+    × OpensAnew (MayOpen after.reloads before.failures after.failures) before.layers told checked after.layers
 
 -- A turn may be so: what is told for the line may be told over the graph that stood, which stands on, and nothing is checked; or
 -- the line asks that the path is opened anew.
-abbrev pub MayTurn : Opener → Turn → Type 0
+abbrev pub MayTurn : Openings → Turn → Type 0
 MayTurn MayOpen turn =
     (MayBeTold (TellsStill turn.before.layers) turn.before.failures turn.after.failures turn.line turn.told
     × (turn.after ≡ turn.before) × (turn.checked ≡ 0))
     ⊎ (Asks turn.line question.Reload × Reloads MayOpen turn.before turn.told turn.checked turn.after)
 
 -- Turns lead from one state to another: each of them may be so, and the state before it is the one after the turn before it.
-pub record AreTurns (MayOpen : Opener) (first last : State) (turns : List Turn) : Type 0 where
+pub record AreTurns (MayOpen : Openings) (first last : State) (turns : List Turn) : Type 0 where
   pub allowed : AllByRecursion (MayTurn MayOpen) turns
   pub joined : map (λ turn. turn.before) turns ++ last ∷ [] ≡ first ∷ map (λ turn. turn.after) turns
 
@@ -77,18 +87,17 @@ pub record Session : Type 0 where
   pub failed : Option ReadError
 
 -- the turns begin with the graph that the path opened, and end with some graph
-abbrev pub IsSession : Opener → ℕ → ℕ → Option (List ℕ) → Option (List ℕ) → Session → Type 0
+abbrev pub IsSession : Openings → ℕ → ℕ → Option (List ℕ) → Option (List ℕ) → Session → Type 0
 IsSession MayOpen old new input unread session =
-    (opened : ℕ) × (last : List Layer) × MayTake (MayOpen old opened) (Ok session.opened)
-    × AreTurns MayOpen (record { layers = session.opened; failures = opened }) (record { layers = last; failures = new })
-    session.turns
-    × AreLinesOf input unread (map (λ turn. turn.line) session.turns) session.failed
+    (opened : ℕ) × (last : State) × MayTake (MayOpen 0 old opened) (Ok session.opened)
+    × AreTurns MayOpen (record { layers = session.opened; failures = opened; reloads = 0 }) last session.turns
+    × (last.failures ≡ new) × AreLinesOf input unread (map (λ turn. turn.line) session.turns) session.failed
 
 -- what may come of `ask`, in a call that took the count of failures from old to new, and left so much of the input unread; where
 -- the graph is refused, nothing is read
-abbrev pub MayAsk : Opener → ℕ → ℕ → Option (List ℕ) → Option (List ℕ) → Result Session Refusal → Type 0
+abbrev pub MayAsk : Openings → ℕ → ℕ → Option (List ℕ) → Option (List ℕ) → Result Session Refusal → Type 0
 MayAsk MayOpen old new input unread (Ok session) = IsSession MayOpen old new input unread session
-MayAsk MayOpen old new input unread (Err refusal) = MayRefuseToStart (MayOpen old new) refusal × (unread ≡ input)
+MayAsk MayOpen old new input unread (Err refusal) = MayRefuseToStart (MayOpen 0 old new) refusal × (unread ≡ input)
 
 -- the text of a session: the line of the graph and an empty one, the texts of the turns, and why they ended
 abbrev pub session_text : Session → List ℕ

@@ -1,19 +1,22 @@
 //! The command `ask`: many questions about the graph at a path, one a line.
 
-ghost use Rattle.std.specs.Prelude.{◌≡◌, [], ℕ, List, Option, Ok, IfOk, OnOk, map};
+ghost use Rattle.std.specs.Prelude.{◌≡◌, ◌+◌, [], ℕ, List, Option, Ok, IfOk, OnOk, map};
 ghost use Rattle.std.specs.Io.KnownBytes.{Appends, prepend_known};
 ghost use Rattle.std.specs.List.{flat_map};
 ghost use Rattle.graph_commands.specs.OpenerAnswer.{MayOpen};
 ghost use Rattle.graph_commands.specs.Text.{◌⧺◌, newline};
+ghost use Rattle.graph_folder.specs.Tree.{Tree};
 ghost use Rattle.graph_history.specs.RightGraph.{plain_options};
 ghost use Rattle.question_answers.specs.AnsweredLines.{AreAnswered, MayBeTold, StopsAt};
 ghost use Rattle.question_answers.specs.AnsweredLines.{TellsStill};
 ghost use Rattle.question_answers.specs.ReadLines.{AreLinesOf};
 ghost use Rattle.question_answers.specs.Taken.{end_text, end_status, taken_line};
-ghost use Rattle.question_commands.specs.Asking.{AreTurns, MayAsk, Reloads, State, Turn};
+ghost use Rattle.question_commands.specs.Asking.{AreTurns, MayAsk, OpensAnew, State, Turn};
 ghost use Rattle.question_commands.specs.Asking.{all_checked, turn_text};
+ghost use Rattle.question_commands.specs.ChangingTrees.{MayOpenAmong, tree_after};
 ghost use Rattle.question_commands.specs.Ending.{EndsAsked};
 
+use crate::others::Others;
 use crate::taking::take_anew;
 use graph_commands::buffer::Buffer;
 use graph_commands::line::WriteFailed;
@@ -55,30 +58,35 @@ struct Ended {
 /// answers from then on, unless it is refused. Any other line is answered by `refused question`.
 /// Each answer ends with an empty line, and is flushed with it.
 ///
+/// Others may change what stands at the path while questions are answered: they have a turn before
+/// each time that it is opened anew, and what is opened is what stands there then.
+///
 /// Where the lowest layers of a graph that is opened anew are those of the graph that stands, with
 /// the same bytes and the same paths, only the commits above them are checked.
 ///
 /// Where the graph is refused at first, one line is written that says why, and nothing is read.
 /// Where a read fails, or there is no memory for a line, such a line ends the answers.
 /// `WriteFailed` comes where the writer fails.
-pub fn run_ask<R: Read, T: Folder, W: Write>(
+pub fn run_ask<R: Read, T: Folder, E: Others<T>, W: Write>(
     alloc: Global,
     reader: &mut R,
     folder: &mut T,
+    others: &mut E,
     path: &str,
     writer: &mut W,
 ) -> Result<Asked, WriteFailed>
     ensures written { IfOk result (EndsAsked
-        (MayAsk (MayOpen (T.tree folder.old) path.now)
+        (MayAsk (MayOpenAmong (E.makes others.old) (T.tree folder.old) path.now)
         (T.failure_count folder.old) (T.failure_count folder.new)
         (R.remaining reader.old) (R.remaining reader.new))
         (W.contents writer.old) (W.contents writer.new)) }
-    ensures tree { T.tree folder.new ≡ T.tree folder.old }
+    ensures tree { (turns : ℕ) × (T.tree folder.new
+        ≡ tree_after (E.makes others.old) (T.tree folder.old) turns) }
 {
     match open_checked(alloc, folder, path) {
         Ok(graph) => {
             write_taken(writer, &graph)?;
-            let ended = answer_all(alloc, reader, folder, path, writer, graph)?;
+            let ended = answer_all(alloc, reader, folder, others, path, writer, graph)?;
             finish_all(writer, ended)
         }
         Err(refusal) => Ok(Asked {
@@ -110,24 +118,27 @@ fn write_taken<W: Write>(writer: &mut W, graph: &CheckedGraph) -> Result<(), Wri
 }
 
 /// Answers all lines, over the graph or those that are taken in its place.
-fn answer_all<R: Read, T: Folder, W: Write>(
+fn answer_all<R: Read, T: Folder, E: Others<T>, W: Write>(
     alloc: Global,
     reader: &mut R,
     folder: &mut T,
+    others: &mut E,
     path: &str,
     writer: &mut W,
     graph: CheckedGraph,
 ) -> Result<Ended, WriteFailed>
     requires options { graph.options ≡ plain_options }
     ensures answered { IfOk result (λ ended. (turns : List Turn) × (last : State)
-        × AreTurns (MayOpen (T.tree folder.old) path.now)
-        (record { layers = graph.layers; failures = T.failure_count folder.old }) last turns
+        × AreTurns (MayOpenAmong (E.makes others.old) (T.tree folder.old) path.now)
+        (record { layers = graph.layers; failures = T.failure_count folder.old; reloads = 0 })
+        last turns
         × (last.failures ≡ T.failure_count folder.new)
         × AreLinesOf (R.remaining reader.old) (R.remaining reader.new)
         (map (λ turn. turn.line) turns) ended.failed
         × Appends (W.contents writer.old) (W.contents writer.new) (flat_map turn_text turns)
         × (ended.checked ≡ all_checked turns)) }
-    ensures tree { T.tree folder.new ≡ T.tree folder.old }
+    ensures tree { (turns : ℕ) × (T.tree folder.new
+        ≡ tree_after (E.makes others.old) (T.tree folder.old) turns) }
 {
     let (Ok(mut lines), Ok(mut buffer)) = (LineReader::new(alloc), Buffer::new(alloc)) else {
         return Ok(Ended {
@@ -140,6 +151,7 @@ fn answer_all<R: Read, T: Folder, W: Write>(
         &mut lines,
         reader,
         folder,
+        others,
         path,
         &mut buffer,
         writer,
@@ -149,11 +161,12 @@ fn answer_all<R: Read, T: Folder, W: Write>(
 
 /// Answers lines as `answer_all` does, with a reader of lines that has read none, and a buffer that
 /// has nothing.
-fn answer_lines<R: Read, T: Folder, W: Write>(
+fn answer_lines<R: Read, T: Folder, E: Others<T>, W: Write>(
     alloc: Global,
     lines: &mut LineReader,
     reader: &mut R,
     folder: &mut T,
+    others: &mut E,
     path: &str,
     buffer: &mut Buffer,
     writer: &mut W,
@@ -163,14 +176,16 @@ fn answer_lines<R: Read, T: Folder, W: Write>(
     requires buffer { buffer.old ≡ [] }
     requires options { graph.options ≡ plain_options }
     ensures answered { IfOk result (λ ended. (turns : List Turn) × (last : State)
-        × AreTurns (MayOpen (T.tree folder.old) path.now)
-        (record { layers = graph.layers; failures = T.failure_count folder.old }) last turns
+        × AreTurns (MayOpenAmong (E.makes others.old) (T.tree folder.old) path.now)
+        (record { layers = graph.layers; failures = T.failure_count folder.old; reloads = 0 })
+        last turns
         × (last.failures ≡ T.failure_count folder.new)
         × AreLinesOf (R.remaining reader.old) (R.remaining reader.new)
         (map (λ turn. turn.line) turns) ended.failed
         × Appends (W.contents writer.old) (W.contents writer.new) (flat_map turn_text turns)
         × (ended.checked ≡ all_checked turns)) }
-    ensures tree { T.tree folder.new ≡ T.tree folder.old }
+    ensures tree { (turns : ℕ) × (T.tree folder.new
+        ≡ tree_after (E.makes others.old) (T.tree folder.old) turns) }
 {
     let (mut graph, mut checked) = (graph, 0u64);
     for _ in 0..u64::MAX {
@@ -189,7 +204,7 @@ fn answer_lines<R: Read, T: Folder, W: Write>(
                 });
             }
             Next::Reload => {
-                let taken = reload(alloc, folder, path, writer, &mut graph)?;
+                let taken = reload(alloc, folder, others, path, writer, &mut graph)?;
                 checked = checked.saturating_add(taken as u64);
             }
         }
@@ -225,25 +240,28 @@ fn answer_over<R: Read, T: Folder, W: Write>(
     answer_by(alloc, &mut asker, folder, lines, reader, buffer, writer)
 }
 
-/// Opens the graph at the path anew, and tells that. The graph that stands then is the new one, or
-/// where that was refused the one before. It answers how many commits were checked.
-fn reload<T: Folder, W: Write>(
+/// Gives others their turn, opens the graph at the path anew, and tells that. The graph that stands
+/// then is the new one, or where that was refused the one before. It answers how many commits were
+/// checked.
+fn reload<T: Folder, E: Others<T>, W: Write>(
     alloc: Global,
     folder: &mut T,
+    others: &mut E,
     path: &str,
     writer: &mut W,
     graph: &mut CheckedGraph,
 ) -> Result<u32, WriteFailed>
     requires { graph.old.options ≡ plain_options }
     ensures told { IfOk result (λ checked. (told : List ℕ)
-        × Reloads (MayOpen (T.tree folder.old) path.now)
-        (record { layers = graph.old.layers; failures = T.failure_count folder.old })
-        told checked
-        (record { layers = graph.new.layers; failures = T.failure_count folder.new })
+        × OpensAnew (MayOpen (T.tree folder.new) path.now (T.failure_count folder.old)
+        (T.failure_count folder.new)) graph.old.layers told checked graph.new.layers
         × Appends (W.contents writer.old) (W.contents writer.new) (told ⧺ newline)) }
     ensures options { graph.new.options ≡ plain_options }
-    ensures tree { T.tree folder.new ≡ T.tree folder.old }
+    ensures tree { T.tree folder.new ≡ E.makes others.old 0 (T.tree folder.old) }
+    ensures later { (turn : ℕ) (tree : Option Tree)
+        → E.makes others.new turn tree ≡ E.makes others.old (turn + 1) tree }
 {
+    others.act(folder);
     match take_anew(alloc, folder, path, graph) {
         Ok(checked) => {
             write_taken(writer, graph)?;

@@ -2,8 +2,8 @@
 use Rattle.std.proofs.Common.{[], refl}
 use Rattle.std.proofs.KnownBytes.{Appends-nil}
 use Rattle.graph_folder.specs.declared.folder.ReadError.TheVariants.{OutOfMemory}
-use Rattle.graph_commands.specs.OpenerAnswer.{MayOpen}
 use Rattle.question_commands.specs.Asking.{State}
+use Rattle.question_commands.specs.ChangingTrees.{MayOpenAmong}
 use Rattle.question_answers.proofs.ReadLemmas.{lines_failed, reads_none}
 use Rattle.question_commands.proofs.AskingLemmas.{turns_none}
 use Rattle.question_commands.proofs.asking.answer_all.Goals as goal
@@ -11,11 +11,11 @@ use Rattle.question_commands.proofs.asking.answer_all.Goals as goal
 pub returns-in_default-clause-answered : goal.returns-in_default-clause-answered
 returns-in_default-clause-answered g c =
     let first : State =
-    record { layers = c.args.graph.layers; failures = g.T.Folder.failure_count c.args.folder.now } in
+    record { layers = c.args.graph.layers; failures = g.T.Folder.failure_count c.args.folder.now; reloads = 0 } in
     let input = g.R.Read.remaining c.args.reader.now in (
       [],
       first,
-      turns_none (MayOpen (g.T.Folder.tree c.args.folder.now) c.args.path.now) first,
+      turns_none (MayOpenAmong (g.E.Others.makes c.args.others.now) (g.T.Folder.tree c.args.folder.now) c.args.path.now) first,
       refl,
       lines_failed input input input [] OutOfMemory (reads_none input) (λ is. cc),
       Appends-nil (g.W.Write.contents c.args.writer.now),

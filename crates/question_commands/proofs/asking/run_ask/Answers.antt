@@ -1,14 +1,14 @@
 -- What is written is the text of a session, or the line of a refusal.
 use Rattle.std.proofs.Common.{refl}
 use Rattle.std.specs.Prelude.{Err}
-use Rattle.graph_commands.specs.OpenerAnswer.{MayOpen}
-use Rattle.question_answers.specs.Taken.{Opener}
+use Rattle.question_commands.specs.ChangingTrees.{MayOpenAmong, Openings}
 use Rattle.question_commands.proofs.AskingLemmas.{asks_ended}
 use Rattle.question_commands.proofs.asking.run_ask.Goals as goal
 
 pub returns-in_ok-ended-in-Ok-clause-written : goal.returns-in_ok-ended-in-Ok-clause-written
 returns-in_ok-ended-in-Ok-clause-written g c =
-    let opens : Opener = MayOpen (g.T.Folder.tree c.args.folder.now) c.args.path.now in
+    let tree = g.T.Folder.tree c.args.folder.now in
+    let opens : Openings = MayOpenAmong (g.E.Others.makes c.args.others.now) tree c.args.path.now in
     let done = rw c.open_checked.ensures.tree at c.in_ok-ended-in-Ok.ensures.answered in
     let opened = c.in-Ok.ensures in
     asks_ended c.finish_all.result opens _ _ _ _ _ _ _ _ _ c.in-Ok.graph.layers done.0 done.1 c.in_ok-ended-in-Ok.ended.failed
