@@ -108,8 +108,8 @@ impl<'g> Checked<'g> {
 /// A contract sees it as the checked graph: its layers and the options of the check.
 #[derive(Drop)]
 pub struct Comparer<'c, 'g> {
-    graph: &'c Checked<'g>,
-    comparer: AnyComparer,
+    pub(crate) graph: &'c Checked<'g>,
+    pub(crate) comparer: AnyComparer,
 }
 
 impl<'c, 'g> Model for Comparer<'c, 'g> {

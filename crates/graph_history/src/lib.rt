@@ -9,11 +9,13 @@
 //! one memory; an [`AnyComparer`] over any source of commits. Queries rely on the generation
 //! numbers, which the check has found right, and leave out each commit whose number is too low to
 //! lead to the one that is looked for ("topological level" in Git's commit-graph design).
+//! Comparisons may also go by corrected dates, where a graph has right ones.
 #![tactic(auto)]
 
 mod access;
 mod bases;
 mod checked;
+mod dates;
 pub mod law;
 mod limit;
 mod limited;
