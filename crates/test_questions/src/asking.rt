@@ -1,10 +1,16 @@
 //! Questions, one a line: writers that are flushed, and reads of a folder that fail.
 
-use crate::fixtures::graphs;
+ghost use Rattle.std.specs.Prelude.{◌==◌, if◌then◌else◌, string_bytes};
+ghost use Rattle.std.specs.FinMap as map;
+ghost use Rattle.std.specs.Option.{option_map, option_map_or};
+ghost use Rattle.graph_folder.specs.Tree.{RegularFile};
+
+use crate::fixtures::{file_of_two, graphs, owned};
 use graph_commands::line::WriteFailed;
 use graph_folder::folder::Memory;
 use graph_vectors::Sink;
 use question_commands::asking::run_ask;
+use question_commands::others::{Nobody, Others};
 use std::alloc::Global;
 use std::io;
 use std::io::{ErrorKind, Write};
@@ -55,7 +61,7 @@ fn ask(
     out: &mut Flushed,
 ) -> Result<u8, WriteFailed> {
     let mut input = questions.as_bytes();
-    Ok(run_ask(alloc, &mut input, folder, "diamond", out)?.status)
+    Ok(run_ask(alloc, &mut input, folder, &mut Nobody, "diamond", out)?.status)
 }
 
 /// Asserts that each answer is flushed with the empty line after it, and where that fails, that it
@@ -82,6 +88,42 @@ fn each_answer_is_flushed(rt: HostRuntime) {
     let questions = "find 1111111111111111111111111111111111111111\n\nwalk\nreload\n\
         parents 1111111111111111111111111111111111111111";
     compare_flushes(&rt, rt.alloc(), questions, 6);
+}
+
+/// Somebody who writes a file in the first turn. Where an allocation fails, the process aborts.
+#[derive(Drop)]
+struct Writer<'a, R: Abort> {
+    rt: &'a R,
+    file: Option<(String, Vec<u8>)>,
+}
+
+impl<R: Abort> Others<Memory> for Writer<'_, R> {
+    ghost makes = { λ writer turn tree. if turn == 0 then option_map_or (λ file.
+        option_map (λ t. map.insert t (string_bytes file.0) (RegularFile file.1.items)) tree)
+        writer.file tree else tree };
+
+    fn act(&mut self, folder: &mut Memory) {
+        if let Some((path, bytes)) = self.file.take() {
+            folder.put_file(path, bytes).expect(self.rt, "memory");
+        }
+    }
+}
+
+/// What comes of a `reload` after which somebody has written a file of two commits.
+fn ask_beside(rt: &impl Abort, alloc: Global, out: &mut Sink) -> Result<u8, WriteFailed> {
+    let mut folder = graphs(rt, alloc);
+    let file = Some((owned(rt, alloc, "diamond"), file_of_two(rt, alloc)));
+    let mut writer = Writer { rt, file };
+    let mut input = "reload\nreload\n".as_bytes();
+    let asked = run_ask(alloc, &mut input, &mut folder, &mut writer, "diamond", out)?;
+    Ok(asked.status)
+}
+
+#[test]
+fn what_others_write_is_reloaded(rt: HostRuntime) {
+    let mut out = Sink::new(rt.alloc(), usize::MAX, None);
+    assert!(&rt; ask_beside(&rt, rt.alloc(), &mut out) == Ok(0));
+    assert!(&rt; out.text() == "ok commits 4\n\nok commits 2\n\nok commits 2\n\n");
 }
 
 const ASKED: &str = "parents 2222222222222222222222222222222222222222\n\

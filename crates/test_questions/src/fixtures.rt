@@ -56,6 +56,11 @@ pub fn graphs(rt: &impl Abort, alloc: Global) -> Memory {
     memory
 }
 
+/// The bytes of a file of two commits.
+pub fn file_of_two(rt: &impl Abort, alloc: Global) -> Vec<u8> {
+    built(rt, alloc, &[], LOWER)
+}
+
 /// Puts a file into a folder in memory.
 fn put(rt: &impl Abort, alloc: Global, memory: &mut Memory, path: &str, bytes: Vec<u8>) {
     memory
@@ -64,7 +69,7 @@ fn put(rt: &impl Abort, alloc: Global, memory: &mut Memory, path: &str, bytes: V
 }
 
 /// The text, in memory of its own.
-fn owned(rt: &impl Abort, alloc: Global, text: &str) -> String {
+pub fn owned(rt: &impl Abort, alloc: Global, text: &str) -> String {
     String::from_str(alloc, text).expect(rt, "memory")
 }
 
