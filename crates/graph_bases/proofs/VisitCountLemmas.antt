@@ -1,19 +1,19 @@
 -- How many commits a painting visits, also at the cap.
 use Rattle.std.proofs.Common.{◌≡◌, ℕ, ◌+◌, ◌*◌, ◌<◌, ◌≤◌, List, [], ◌∷◌, Bool, true, false, not, length, set, cond}
 use Rattle.std.proofs.Common.{sum_by, count_by, Contains, refl, ap, inl, inr, ⊎_elim, arith, lit<}
-use Rattle.std.proofs.lemmas.Bool.{true≢false, cases_Bool, both_ways, and_from}
+use Rattle.std.proofs.lemmas.Bool.{true≢false, false≢true, cases_Bool, both_ways, and_from}
 use Rattle.std.proofs.lemmas.List.Elements.{All-weaker, All-contains, All-contains_itself}
 use Rattle.std.proofs.lemmas.List.Sums.{sum_by-cons, sum_by-set, count_by-le-length}
 use Rattle.graph_walks.specs.History.{Node}
 use Rattle.commit_search.specs.Cardinality.{AtLeast, AtMost}
 use Rattle.commit_search.proofs.CardinalityLemmas.{no_more}
-use Rattle.graph_bases.specs.Bases.{IsReached, HasToBeVisited, IsOnOneSide, IsMergeBase, AreBelowCap}
+use Rattle.graph_bases.specs.Bases.{IsReached, IsCommonAncestor, IsBelowCommon, HasToBeVisited, IsOnOneSide, IsMergeBase, AreBelowCap}
 use Rattle.graph_bases.specs.Bases.{IsAboveEdge, AreVisitsBy}
 use Rattle.graph_bases.specs.Ranks.{Ranking}
 use Rattle.graph_bases.specs.declared.paint.Coat.{Coat}
 use Rattle.graph_bases.specs.declared.paint.Paint.{Paint}
 use Rattle.graph_bases.specs.declared.paint.Paint.TheVariants.{Bare, First, Others, Both, Stale}
-use Rattle.graph_bases.specs.Paint.{is_painted, is_stale, is_visited, covers, joined, known, bare}
+use Rattle.graph_bases.specs.Paint.{first_leads, others_lead, is_painted, is_stale, is_visited, covers, joined, known, bare}
 use Rattle.graph_bases.specs.Paint.{coat_at, paint_at, is_queued, IsPaint}
 use Rattle.graph_bases.specs.Painting.{IsVisitCount, IsPainted, IsDone}
 use Rattle.graph_bases.proofs.EdgeLemmas.{none_counted, unvisited_queued}
@@ -41,6 +41,18 @@ joined_more Both Stale e = lit< tt
 joined_more Both _ e = absurd (true≢false e)
 joined_more Stale Bare e = absurd (true≢false e)
 joined_more Stale _ e = absurd (true≢false e)
+
+-- both sides lead to a commit
+leads_both : Paint → Bool
+leads_both Both = true
+leads_both Stale = true
+leads_both _ = false
+
+both_lead : (x : Paint) → leads_both x ≡ true → (first_leads x ≡ true) × (others_lead x ≡ true)
+unfolding leads_both
+both_lead Both e = (refl, refl)
+both_lead Stale e = (refl, refl)
+both_lead _ e = absurd (false≢true e)
 
 -- Nothing is visited yet.
 pub count_none : (coats : List Coat) → ((p : ℕ) → coat_at coats p ≡ bare) → IsVisitCount coats 0
@@ -129,33 +141,71 @@ visits_bound coats visits count =
     let painted = count_by-le-length (λ (m : Coat). is_painted m.paint) coats in
     omega arith
 
+-- what is known of a commit: that it is reached, that both sides lead to it, and that it lies below a common ancestor
+known_parts : (x : Paint) → known x
+    ≡ cond {A = ℕ} (is_painted x) 1 0 + cond {A = ℕ} (leads_both x) 1 0 + cond {A = ℕ} (is_stale x) 1 0
+unfolding leads_both
+known_parts Bare = refl
+known_parts First = refl
+known_parts Others = refl
+known_parts Both = refl
+known_parts Stale = refl
+
+known_of_parts : (coats : List Coat) → sum_by (λ (m : Coat). known m.paint) coats
+    ≡ count_by (λ (m : Coat). is_painted m.paint) coats + count_by (λ (m : Coat). leads_both m.paint) coats
+    + count_by (λ (m : Coat). is_stale m.paint) coats
+known_of_parts [] = refl
+known_of_parts (c ∷ cs) =
+    let knows = sum_by-cons (λ (m : Coat). known m.paint) c cs in
+    let paints = sum_by-cons (λ (m : Coat). cond {A = ℕ} (is_painted m.paint) 1 0) c cs in
+    let boths = sum_by-cons (λ (m : Coat). cond {A = ℕ} (leads_both m.paint) 1 0) c cs in
+    let stales = sum_by-cons (λ (m : Coat). cond {A = ℕ} (is_stale m.paint) 1 0) c cs in
+    let one = known_parts c.paint in
+    let rest = known_of_parts cs in
+    omega arith
+
+-- as many commits have a property as coats say so
+counted_by_coats : (coats : List Coat) (t : Coat → Bool) → t bare ≡ false → (P : ℕ → Type 0)
+    → ((p : ℕ) → t (coat_at coats p) ≡ true → P p) → AtLeast (count_by t coats) P
+counted_by_coats coats t none P says =
+    let all =
+    counted_number t coats (λ p. t (coat_at coats p) ≡ true) (λ p. ((λ e. e), (λ e. e)))
+    (λ p e. tested_within t none coats p e) (count_by t coats) refl in (
+      all.0,
+      all.2,
+      all.1.once,
+      All-weaker (Contains all.0) P (λ p contained. says p ((all.1.those p).0 contained)) all.0 (All-contains_itself all.0),
+    )
+
 module _ (h : List Node) (a : ℕ) (bs : List ℕ) (coats : List Coat) (visits : ℕ) (paint : IsPaint h a bs coats)
     (count : IsVisitCount coats visits) where
-  -- no more than three times as many as are reached
-  at_most_three_times : (n : ℕ) × AtLeast n (IsReached h a bs) × (visits ≤ 3 * n)
-  at_most_three_times =
-      let t : Coat → Bool = λ m. is_painted m.paint in
-      let all =
-      counted_number t coats (λ p. is_painted (paint_at coats p) ≡ true) (λ p. ((λ e. e), (λ e. e)))
-      (λ p e. tested_within t refl coats p e) (count_by t coats) refl in
+  -- no more than are reached, with common ancestors once more, and a third time those below another one
+  as_often_as_known : (reached common below : ℕ) × AtLeast reached (IsReached h a bs) × AtLeast common (IsCommonAncestor h a bs)
+      × AtLeast below (IsBelowCommon h a bs) × (visits ≤ reached + common + below)
+  unfolding leads_both
+  as_often_as_known =
       let most = count.most in
-      let bound = known_of_all coats in (
-        length all.0,
-        (
-          all.0,
-          refl,
-          all.1.once,
-          All-weaker (Contains all.0) (IsReached h a bs) (λ p contained. is_reached p ((all.1.those p).0 contained)) all.0
-              (All-contains_itself all.0),
-        ),
-        (let many = all.2 in omega arith),
-      ) where
-        is_reached : (p : ℕ) → is_painted (paint_at coats p) ≡ true → IsReached h a bs p
-        is_reached p painted =
-            ⊎_elim
-            (λ e. inl ((paint.each p).first e))
-            (λ e. inr ((paint.each p).others e))
-            (painted_leads (paint_at coats p) painted)
+      let parts = known_of_parts coats in (
+        count_by (λ (m : Coat). is_painted m.paint) coats,
+        count_by (λ (m : Coat). leads_both m.paint) coats,
+        count_by (λ (m : Coat). is_stale m.paint) coats,
+        counted_by_coats coats (λ m. is_painted m.paint) refl (IsReached h a bs) is_reached,
+        counted_by_coats coats (λ m. leads_both m.paint) refl (IsCommonAncestor h a bs) is_common,
+        counted_by_coats coats (λ m. is_stale m.paint) refl (IsBelowCommon h a bs) (λ p stale. (paint.each p).stale stale),
+        omega arith,
+      )
+    where
+      is_reached : (p : ℕ) → is_painted (paint_at coats p) ≡ true → IsReached h a bs p
+      is_reached p painted =
+          ⊎_elim
+          (λ e. inl ((paint.each p).first e))
+          (λ e. inr ((paint.each p).others e))
+          (painted_leads (paint_at coats p) painted)
+
+      is_common : (p : ℕ) → leads_both (paint_at coats p) ≡ true → IsCommonAncestor h a bs p
+      is_common p both =
+          let sides = both_lead (paint_at coats p) both in
+          ((paint.each p).first sides.0, (paint.each p).others sides.1)
 
 -- What was visited at the end.
 module _ {h : List Node} {k : Ranking} {a : ℕ} {bs : List ℕ} {coats : List Coat} {visits : ℕ}
@@ -200,4 +250,4 @@ module _ {h : List Node} {k : Ranking} {a : ℕ} {bs : List ℕ} {coats : List C
       omega arith
 
   pub visits_told : (AreBelowCap k a bs → AtLeast visits (IsAboveEdge h k a bs)) → AreVisitsBy h k a bs visits
-  visits_told once = record { most = at_most_three_times h a bs coats visits paint count; least = no_fewer; below_cap = once }
+  visits_told once = record { most = as_often_as_known h a bs coats visits paint count; least = no_fewer; below_cap = once }

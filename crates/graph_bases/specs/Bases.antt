@@ -1,6 +1,6 @@
 -- The common ancestors of a commit and some others of a history, and the best of them, which Git calls merge bases ("git
 -- merge-base", DESCRIPTION and DISCUSSION); and how far the commits have come apart ("git for-each-ref", ahead-behind).
-use Rattle.std.specs.Prelude.{◌≡◌, ◌⊎◌, ◌↔◌, ℕ, ◌*◌, ◌<◌, ◌≤◌, List, Contains}
+use Rattle.std.specs.Prelude.{◌≡◌, ◌⊎◌, ◌↔◌, ℕ, ◌+◌, ◌<◌, ◌≤◌, List, Contains}
 use Rattle.std.specs.List.Sorted.{IsStrictlyIncreasing}
 use Rattle.graph_walks.specs.History.{Node, IsParent}
 use Rattle.graph_walks.specs.Walks.{Reaches, IsProperAncestor}
@@ -14,6 +14,10 @@ IsReachedFromSome history starts p = (s : ℕ) × Contains starts s × Reaches h
 -- the first leads to p, and some of the others does: p is an ancestor that the first shares with a merge of the others
 abbrev pub IsCommonAncestor : List Node → ℕ → List ℕ → ℕ → Type 0
 IsCommonAncestor history first others p = Reaches history first p × IsReachedFromSome history others p
+
+-- p is a proper ancestor of a common ancestor
+abbrev pub IsBelowCommon : List Node → ℕ → List ℕ → ℕ → Type 0
+IsBelowCommon history first others p = (c : ℕ) × IsCommonAncestor history first others c × IsProperAncestor history c p
 
 -- A best common ancestor: one that is no proper ancestor of a common ancestor.
 pub record IsMergeBase (history : List Node) (first : ℕ) (others : List ℕ) (p : ℕ) : Type 0 where
@@ -71,8 +75,10 @@ HasToBeVisited history ranking first others p =
 
 -- How many commits a search for merge bases visits that orders them by these ranks.
 pub record AreVisitsBy (history : List Node) (ranking : Ranking) (first : ℕ) (others : List ℕ) (visits : ℕ) : Type 0 where
-  -- no more than three times as many as are reached
-  pub most : (n : ℕ) × AtLeast n (IsReached history first others) × (visits ≤ 3 * n)
+  -- no more than are reached, with the common ancestors once more, and a third time those below another one
+  pub most : (reached common below : ℕ) × AtLeast reached (IsReached history first others)
+      × AtLeast common (IsCommonAncestor history first others) × AtLeast below (IsBelowCommon history first others)
+      × (visits ≤ reached + common + below)
   -- no fewer than have to be visited
   pub least : AtMost visits (HasToBeVisited history ranking first others)
   -- below the cap each is visited once at most, and only those that are reached at or above the edge

@@ -2,8 +2,8 @@
 -- private contracts alone.
 use Rattle.std.specs.Prelude.{◌≡◌, ℕ, Bool, true, false, not, ◌&&◌, ◌||◌, if◌then◌else◌, List, length, count_by}
 use Rattle.graph_walks.specs.History.{Node}
-use Rattle.graph_walks.specs.Walks.{Reaches, IsProperAncestor}
-use Rattle.graph_bases.specs.Bases.{IsReachedFromSome, IsCommonAncestor}
+use Rattle.graph_walks.specs.Walks.{Reaches}
+use Rattle.graph_bases.specs.Bases.{IsReachedFromSome, IsBelowCommon}
 use Rattle.graph_bases.specs.declared.paint.Paint.{Paint}
 use Rattle.graph_bases.specs.declared.paint.Paint.TheVariants.{Bare, First, Others, Both, Stale}
 use Rattle.graph_bases.specs.declared.paint.Coat.{Coat}
@@ -80,10 +80,6 @@ known First = 1
 known Others = 1
 known Both = 2
 known Stale = 3
-
--- q is a proper ancestor of some common ancestor
-abbrev pub IsBelowCommon : List Node → ℕ → List ℕ → ℕ → Type 0
-IsBelowCommon history first others q = (c : ℕ) × IsCommonAncestor history first others c × IsProperAncestor history c q
 
 -- What paint says of a commit is so.
 pub record IsSo (history : List Node) (start : ℕ) (starts : List ℕ) (p : ℕ) (paint : Paint) : Type 0 where
