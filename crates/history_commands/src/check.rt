@@ -6,7 +6,7 @@ ghost use Rattle.std.specs.Io.KnownBytes.{Appends};
 ghost use Rattle.std.specs.Ordering.{nat_cmp};
 ghost use Rattle.gix_commitgraph.specs.Sound.{Sound};
 ghost use Rattle.graph_commands.specs.WrittenAnswer.{WritesAnswer};
-ghost use Rattle.graph_commands.specs.OpenerAnswer.{MayOpen};
+ghost use Rattle.graph_commands.specs.OpenerAnswer.{MayOpenIn};
 ghost use Rattle.history_commands.specs.Check.{AreDatesFound, AreFiltersFound, MayFindInAll};
 ghost use Rattle.history_commands.specs.Check.{MayRefuseDates, MayRefuseFilters};
 ghost use Rattle.history_commands.specs.Check.{MayRefuseToCheck};
@@ -148,9 +148,7 @@ pub fn run_check<T: Folder, W: Write>(
     writer: &mut W,
 ) -> Result<u8, WriteFailed>
     ensures written { IfOk result (WritesAnswer check_text check_status
-        (MayFindInAll
-        (MayOpen (T.tree folder.old) path.now (T.failure_count folder.old)
-        (T.failure_count folder.new)))
+        (MayFindInAll (MayOpenIn T.Folder folder.old folder.new path.now))
         (W.contents writer.old) (W.contents writer.new)) }
     ensures tree { T.tree folder.new ≡ T.tree folder.old }
 {
@@ -208,13 +206,11 @@ fn check<T: Folder>(
     path: &str,
 ) -> Result<(CheckedGraph, Option<u32>, Option<u32>), CheckRefusal>
     ensures opened { IfOk result (λ checked.
-        MayOpen (T.tree folder.old) path.now (T.failure_count folder.old)
-        (T.failure_count folder.new) (Ok checked.0.layers)) }
+        MayOpenIn T.Folder folder.old folder.new path.now (Ok checked.0.layers)) }
     ensures dates { IfOk result (λ checked. AreDatesFound checked.0.layers checked.1) }
     ensures filters { IfOk result (λ checked. AreFiltersFound checked.0.layers checked.2) }
     ensures refused { IfErr result (MayRefuseToCheck
-        (MayOpen (T.tree folder.old) path.now (T.failure_count folder.old)
-        (T.failure_count folder.new))) }
+        (MayOpenIn T.Folder folder.old folder.new path.now)) }
     ensures tree { T.tree folder.new ≡ T.tree folder.old }
 {
     let graph = open_checked(alloc, folder, path)?;

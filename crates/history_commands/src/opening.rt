@@ -2,7 +2,7 @@
 
 ghost use Rattle.std.specs.Prelude.{◌≡◌, IfErr, IfOk, Ok};
 ghost use Rattle.gix_commitgraph.specs.Sound.{Sound};
-ghost use Rattle.graph_commands.specs.OpenerAnswer.{MayOpen};
+ghost use Rattle.graph_commands.specs.OpenerAnswer.{MayOpenIn};
 ghost use Rattle.graph_history.specs.RightGraph.{plain_options};
 ghost use Rattle.history_commands.specs.Check.{MayRefuseToStart};
 
@@ -23,13 +23,11 @@ pub fn open_checked<T: Folder>(
     path: &str,
 ) -> Result<CheckedGraph, Refusal>
     ensures opened { IfOk result (λ graph.
-        MayOpen (T.tree folder.old) path.now (T.failure_count folder.old)
-        (T.failure_count folder.new) (Ok graph.layers)) }
+        MayOpenIn T.Folder folder.old folder.new path.now (Ok graph.layers)) }
     ensures right { IfOk result (λ graph. Sound graph.layers) }
     ensures options { IfOk result (λ graph. graph.options ≡ plain_options) }
     ensures refused { IfErr result (MayRefuseToStart
-        (MayOpen (T.tree folder.old) path.now (T.failure_count folder.old)
-        (T.failure_count folder.new))) }
+        (MayOpenIn T.Folder folder.old folder.new path.now)) }
     ensures tree { T.tree folder.new ≡ T.tree folder.old }
 {
     let graph = open_in(alloc, folder, path)?;

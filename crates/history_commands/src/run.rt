@@ -3,7 +3,7 @@
 ghost use Rattle.std.specs.Prelude.{◌≡◌, ◌∷◌, [], IfOk, map, string_bytes};
 ghost use Rattle.answer_lines.specs.Replies.{response_status, response_text};
 ghost use Rattle.answer_lines.specs.declared.reply.Form.TheVariants.{Whole, IdsAlone};
-ghost use Rattle.graph_commands.specs.OpenerAnswer.{MayOpen};
+ghost use Rattle.graph_commands.specs.OpenerAnswer.{MayOpenIn};
 ghost use Rattle.graph_commands.specs.WrittenAnswer.{WritesAnswer};
 ghost use Rattle.history_commands.specs.AskedOnce.{MayAskOnce, MayReplyAt};
 ghost use Rattle.history_commands.specs.CheckedReplies.{IsSearched};
@@ -39,8 +39,7 @@ pub fn run_is_ancestor<T: Folder, W: Write>(
 ) -> Result<u8, WriteFailed>
     ensures written { IfOk result (WritesAnswer (response_text Whole) response_status
         (MayAskOnce named.IsAncestor (first.now ∷ second.now ∷ []) (folder.new ≡ folder.old)
-        (MayReplyAt (MayOpen (T.tree folder.old) path.now (T.failure_count folder.old)
-        (T.failure_count folder.new))))
+        (MayReplyAt (MayOpenIn T.Folder folder.old folder.new path.now)))
         (W.contents writer.old) (W.contents writer.new)) }
     ensures tree { T.tree folder.new ≡ T.tree folder.old }
 {
@@ -70,8 +69,7 @@ pub fn run_walk<T: Folder, W: Write>(
 ) -> Result<u8, WriteFailed>
     ensures written { IfOk result (WritesAnswer (response_text Whole) response_status
         (MayAskOnce named.Walk (first.now ∷ second.now ∷ []) (folder.new ≡ folder.old)
-        (MayReplyAt (MayOpen (T.tree folder.old) path.now (T.failure_count folder.old)
-        (T.failure_count folder.new))))
+        (MayReplyAt (MayOpenIn T.Folder folder.old folder.new path.now)))
         (W.contents writer.old) (W.contents writer.new)) }
     ensures tree { T.tree folder.new ≡ T.tree folder.old }
 {
@@ -103,8 +101,7 @@ pub fn run_merge_base<T: Folder, W: Write>(
     ensures written { IfOk result (WritesAnswer (response_text Whole) response_status
         (MayAskOnce named.MergeBase (first.now ∷ map string_bytes others.now)
         (folder.new ≡ folder.old)
-        (MayReplyAt (MayOpen (T.tree folder.old) path.now (T.failure_count folder.old)
-        (T.failure_count folder.new))))
+        (MayReplyAt (MayOpenIn T.Folder folder.old folder.new path.now)))
         (W.contents writer.old) (W.contents writer.new)) }
     ensures tree { T.tree folder.new ≡ T.tree folder.old }
 {
@@ -132,8 +129,7 @@ pub fn run_merge_base_ids<T: Folder, W: Write>(
     ensures written { IfOk result (WritesAnswer (response_text IdsAlone) response_status
         (MayAskOnce named.MergeBase (first.now ∷ map string_bytes others.now)
         (folder.new ≡ folder.old)
-        (MayReplyAt (MayOpen (T.tree folder.old) path.now (T.failure_count folder.old)
-        (T.failure_count folder.new))))
+        (MayReplyAt (MayOpenIn T.Folder folder.old folder.new path.now)))
         (W.contents writer.old) (W.contents writer.new)) }
     ensures tree { T.tree folder.new ≡ T.tree folder.old }
 {
@@ -159,8 +155,7 @@ pub fn run_question<T: Folder, W: Write>(
 ) -> Result<u8, WriteFailed>
     requires { IsSearched question.now }
     ensures written { IfOk result (WritesAnswer (response_text form) response_status
-        (MayReplyAt (MayOpen (T.tree folder.old) path.now (T.failure_count folder.old)
-        (T.failure_count folder.new)) question.now)
+        (MayReplyAt (MayOpenIn T.Folder folder.old folder.new path.now) question.now)
         (W.contents writer.old) (W.contents writer.new)) }
     ensures tree { T.tree folder.new ≡ T.tree folder.old }
 {
