@@ -7,8 +7,8 @@ use Rattle.std.proofs.lemmas.List.Sums.{sum_by-cons, sum_by-set, count_by-le-len
 use Rattle.graph_walks.specs.History.{Node}
 use Rattle.commit_search.specs.Cardinality.{AtLeast, AtMost}
 use Rattle.commit_search.proofs.CardinalityLemmas.{no_more}
-use Rattle.graph_bases.specs.Bases.{IsReached, IsCommonAncestor, IsBelowCommon, HasToBeVisited, IsOnOneSide, IsMergeBase, AreBelowCap}
-use Rattle.graph_bases.specs.Bases.{IsAboveEdge, AreVisitsBy}
+use Rattle.graph_bases.specs.Bases.{IsReached, IsCommonAncestor, IsBelowCommon, HasToBeVisited, IsOnOneSide}
+use Rattle.graph_bases.specs.Bases.{IsMergeBase, AreBelowCap, IsAboveEdge, AreVisitsBy}
 use Rattle.graph_bases.specs.Ranks.{Ranking}
 use Rattle.graph_bases.specs.declared.paint.Coat.{Coat}
 use Rattle.graph_bases.specs.declared.paint.Paint.{Paint}
