@@ -137,7 +137,7 @@ QUESTIONS = (
     Row("ask walk --unchecked", ("tower",), LOGARITHMIC, LOGARITHMIC),
     *both("ask walk", FEW, CONSTANT, CONSTANT),
     *both("ask merge-base", ("lines", "parents", "lists"), LINEAR, LINEAR),
-    Row("ask merge-base", ("tower",), LOGARITHMIC, LINEAR),
+    Row("ask merge-base", ("tower",), LINEAR, LINEAR),
     Row("ask merge-base --unchecked", ("tower",), LOGARITHMIC, LOGARITHMIC),
     *both("ask merge-base", FEW, CONSTANT, CONSTANT),
     *both("ask parents", COMMITS, LOGARITHMIC, CONSTANT),

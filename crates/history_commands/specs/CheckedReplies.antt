@@ -10,7 +10,7 @@ use Rattle.gix_commitgraph.specs.Graph.{graph_ids}
 use Rattle.gix_commitgraph.specs.IdWalks.{ids_at}
 use Rattle.commit_search.specs.Positions.{numbers_of}
 use Rattle.commit_search.specs.WalkAnswer.{IsShortestWalk}
-use Rattle.graph_history.specs.GraphComparison.{IsComparisonOf}
+use Rattle.graph_history.specs.GraphComparison.{IsComparisonInOrder}
 use Rattle.answers.specs.FoundOf.{IsFoundOf, OfFirst, OfOne, OfTwo}
 use Rattle.answers.specs.declared.comparison.IdComparison.{IdComparison}
 use Rattle.answer_lines.specs.Replies.{ListedReply, response_text}
@@ -44,7 +44,7 @@ IsWalkOfIds layers first second None = ¬ Reaches (history_of layers) first seco
 -- `git rev-list --left-right --count` counts for one other
 abbrev pub AreBasesOf : List Layer → ℕ → List ℕ → IdComparison (List (List ℕ)) → Type 0
 AreBasesOf layers first others known =
-    IsComparisonOf layers first others known.comparison
+    IsComparisonInOrder layers first others known.comparison
     × (known.base_ids ≡ ids_at layers (numbers_of known.comparison.bases.positions.items))
 
 -- the ids of the parents of the commit at a position, first parent first

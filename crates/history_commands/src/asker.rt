@@ -14,6 +14,7 @@ ghost use Rattle.graph_commands.specs.Buffer.{with_buffer};
 ghost use Rattle.history_commands.specs.CheckedReplies.{IsReplyTo, IsSearched, TellsOver};
 ghost use Rattle.question_lines.specs.Questions.{question_ids};
 
+use crate::dates::KnownDates;
 use crate::found::{compare, is_ancestor, walk};
 use answer_lines::push::{push_found, push_missing, push_parent};
 use answer_lines::reply::{Form, Reply};
@@ -30,25 +31,29 @@ use std::io::Write;
 use std::marker::Model;
 
 /// Answers questions over one graph that was checked, and keeps its memory from one question to the
-/// next: that of a [`Searcher`] and of a [`Comparer`]. A contract sees it as the graph's layers.
+/// next: that of a [`Searcher`] and of a [`Comparer`], and the corrected dates, from the first
+/// question on that asks for merge bases. A contract sees it as the graph's layers.
 #[derive(Drop)]
 pub struct CheckedAsker<'c, 'g> {
     alloc: Global,
     graph: &'c Checked<'g>,
     searcher: Searcher<'g>,
     comparer: Comparer<'c, 'g>,
+    dates: KnownDates,
 }
 
 impl<'c, 'g> Model for CheckedAsker<'c, 'g> {
-    ghost use Rattle.std.specs.Prelude.{◌≡◌, List};
+    ghost use Rattle.std.specs.Prelude.{◌≡◌, List, IfSome};
     ghost use Rattle.graph_format.specs.Layer.{Layer};
+    ghost use Rattle.graph_history.specs.GraphComparison.{AreDatesOf};
 
     ghost Value = { List Layer };
 
     ghost view = { λ asker. asker.graph.now.layers };
 
     ghost invariant = { λ asker. (asker.searcher ≡ asker.graph.now.layers)
-        × (asker.comparer ≡ asker.graph.now) };
+        × (asker.comparer ≡ asker.graph.now)
+        × IfSome asker.dates.found (AreDatesOf asker.comparer.layers) };
 }
 
 impl<'c, 'g> CheckedAsker<'c, 'g> {
@@ -61,6 +66,7 @@ impl<'c, 'g> CheckedAsker<'c, 'g> {
             graph,
             searcher: graph.searcher(alloc),
             comparer: Comparer::new(alloc, graph),
+            dates: KnownDates::new(),
         }
     }
 
@@ -93,7 +99,8 @@ impl<'c, 'g> CheckedAsker<'c, 'g> {
                 }
             }
             Question::MergeBase(first, others) => {
-                match compare(self.alloc, &mut self.comparer, first.as_oid(), others) {
+                let (comparer, dates) = (&mut self.comparer, &mut self.dates);
+                match compare(self.alloc, comparer, dates, first.as_oid(), others) {
                     Ok(compared) => Ok(Reply::Compared(compared)),
                     Err(refusal) => Err(refusal),
                 }

@@ -9,14 +9,16 @@ ghost use Rattle.commit_search.specs.Positions.{numbers_of};
 ghost use Rattle.answers.specs.FoundOf.{FindsAt, IsFoundOf, OfFirst, OfTwo, known_map};
 ghost use Rattle.answers.specs.FoundOf.{listed_comparison, listed_walk};
 ghost use Rattle.graph_commands.specs.Ancestor.{IsThere};
+ghost use Rattle.graph_history.specs.GraphComparison.{AreDatesOf, IsComparisonInOrder};
 ghost use Rattle.history_commands.specs.CheckedReplies.{AreBasesOf, IsFirstMissing, IsTold};
 ghost use Rattle.history_commands.specs.CheckedReplies.{IsWalkOfIds, Scans};
 
+use crate::dates::KnownDates;
 use answers::{Answer, IdComparison};
 use gix_commitgraph::Position;
 use gix_hash_core::{ObjectId, oid};
 use graph_commands::refusal::Refusal;
-use graph_history::{Checked, Comparer, Searcher};
+use graph_history::{Checked, Comparer, Comparison, Searcher};
 use std::alloc::{AllocError, Global};
 
 /// Whether the commit with the first id is an ancestor of the one with the second, or the same. The
@@ -121,19 +123,23 @@ fn ids_of(
 }
 
 /// What the commit with the first id and those with the others have in common, in the graph of a
-/// comparer. The error is `Walk`, where an allocation failed; all of them are there then.
+/// comparer, by a search in the order of its corrected dates, where it has right ones. The error is
+/// `Walk`, where an allocation failed; all of them are there then.
 pub(crate) fn compare(
     alloc: Global,
     comparer: &mut Comparer<'_, '_>,
+    dates: &mut KnownDates,
     first: oid<'_>,
     others: &[ObjectId],
 ) -> Result<Answer<IdComparison<Vec<ObjectId>>>, Refusal>
+    requires { IfSome dates.old.found (AreDatesOf comparer.old.layers) }
     ensures found { IfOk result (λ found. IsFoundOf (Scans comparer.old.layers)
         (OfFirst (AreBasesOf comparer.old.layers)) (oid_bytes first.entry ∷ others.now)
         (known_map listed_comparison found)) }
     ensures refused { IfErr result (λ refusal. (refusal ≡ Refusal.Walk)
         × All (IsThere comparer.old.layers) (oid_bytes first.entry ∷ others.now)) }
     ensures comparer { comparer.new ≡ comparer.old }
+    ensures dates { IfSome dates.new.found (AreDatesOf comparer.old.layers) }
 {
     let graph = comparer.graph();
     let Some(first) = graph.find(first) else {
@@ -145,7 +151,8 @@ pub(crate) fn compare(
     let Ok(others) = find_all(alloc, graph, others) else {
         return Err(Refusal::Walk);
     };
-    match compare_at(alloc, comparer, first, &others) {
+    dates.look(alloc, graph);
+    match compare_at(alloc, comparer, dates, first, &others) {
         Ok(known) => Ok(Answer::Known(known)),
         Err(_) => Err(Refusal::Walk),
     }
@@ -155,21 +162,44 @@ pub(crate) fn compare(
 fn compare_at(
     alloc: Global,
     comparer: &mut Comparer<'_, '_>,
+    dates: &KnownDates,
     first: Position,
     others: &[Position],
 ) -> Result<IdComparison<Vec<ObjectId>>, AllocError>
+    requires dates { IfSome dates.now.found (AreDatesOf comparer.old.layers) }
     requires first { first.0 < total comparer.old.layers }
     requires others { All (λ other. other.0 < total comparer.old.layers) others.now }
     ensures known { IfOk result (λ known. AreBasesOf comparer.old.layers first.0
         (numbers_of others.now) (listed_comparison known)) }
     ensures comparer { comparer.new ≡ comparer.old }
 {
-    let comparison = comparer.compare(first, others)?;
+    let comparison = compare_in_order(comparer, dates, first, others)?;
     let base_ids = ids_of(alloc, comparer.graph(), &comparison.bases.positions)?;
     Ok(IdComparison {
         comparison,
         base_ids,
     })
+}
+
+/// What the commits at some positions have in common, by a search in the order of the corrected
+/// dates, where some are known, and else of the generation numbers.
+fn compare_in_order(
+    comparer: &mut Comparer<'_, '_>,
+    dates: &KnownDates,
+    first: Position,
+    others: &[Position],
+) -> Result<Comparison, AllocError>
+    requires dates { IfSome dates.now.found (AreDatesOf comparer.old.layers) }
+    requires first { first.0 < total comparer.old.layers }
+    requires others { All (λ other. other.0 < total comparer.old.layers) others.now }
+    ensures exact { IfOk result (IsComparisonInOrder comparer.old.layers first.0
+        (numbers_of others.now)) }
+    ensures comparer { comparer.new ≡ comparer.old }
+{
+    match &dates.found {
+        Some(found) => comparer.compare_by_dates(found, first, others),
+        None => comparer.compare(first, others),
+    }
 }
 
 /// The place of the first id that is not in a graph that was checked, if there is one. The first

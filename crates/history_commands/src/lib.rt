@@ -9,6 +9,7 @@
 
 pub mod asker;
 mod check;
+mod dates;
 mod found;
 pub mod opening;
 pub mod run;

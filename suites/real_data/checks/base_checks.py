@@ -5,13 +5,14 @@ Also beside `git rev-list --left-right --count`. Where some commits are older th
 since its search goes by times: some to which an excluded commit leads.
 """
 
+import os
 import random
 import re
 import shutil
 
 from checks.runs import check_runs
 from expected import judge
-from expected.listing import generations, places
+from expected.listing import corrected_dates, generations, places
 from expected.visits import Visits
 from histories import shapes
 
@@ -78,30 +79,45 @@ def check_sets(histories, results, repository, name, words, graphs, sets):
     in_order = all(words[parent].time <= said.time for said in words.values() for parent in said.parents)
     reached, number = all_reached(words), {commit: number for number, commit in enumerate(words)}
     parents = [[number[parent] for parent in said.parents] for said in words.values()]
-    visits = Visits(parents, list(generations(words).values()), list(reached.values()))
-    asked = histories.merge_base, histories.merge_base_unchecked
+    by_number = Visits(parents, list(generations(words).values()), list(reached.values()))
+    by_date = Visits(parents, list(corrected_dates(words).values()), list(reached.values()), cap=None)
+    visits = {path: by_date if has_dates(path) else by_number for path in graphs}
     asked_for_ids = histories.merge_base_ids, histories.merge_base_ids_unchecked
 
     def answer(ids):
-        told = [(run(path, *ids), place) for path, place in graphs.items() for run in asked]
-        alone = [run(path, *ids) for run in asked_for_ids]
         bases, (first, *rest) = repository.merge_bases(*ids), (number[commit] for commit in ids)
-        bounds = visits.bounds(first, rest, len(bases))
-        return bases, bounds, divergence(reached, *ids), repository.divergence(*ids), told, alone
+        told = []
+        for path, place in graphs.items():
+            told.append((visits[path].bounds(first, rest, len(bases)), histories.merge_base(path, *ids), place))
+            told.append((by_number.bounds(first, rest, len(bases)), histories.merge_base_unchecked(path, *ids), place))
+        alone = [run(path, *ids) for run in asked_for_ids]
+        return bases, divergence(reached, *ids), repository.divergence(*ids), told, alone
 
     def complaint(answers):
-        bases, bounds, listed, counted, told, alone = answers
+        bases, listed, counted, told, alone = answers
         found.append((len(bases), listed == counted))
         if listed != counted if in_order else any(more > count for more, count in zip(listed, counted)):
             return "Git counts %s, and its own parents say %s" % (counted, listed)
         lines = "".join(base + "\n" for base in sorted(bases, key=place.get)) or "none\n"
-        complaints = [complaint_of(bases, listed, bounds, *pair) for pair in told]
+        complaints = [complaint_of(bases, listed, *each) for each in told]
         complaints += [judge.exactly(0 if bases else 1, lines, "", ids) for ids in alone]
         return next(filter(None, complaints), None)
 
     runs = [(lambda ids=ids: answer(ids), complaint) for ids in sets]
     check_runs(results, "%s, merge-base, also unchecked, sets of commits of %s" % (repository.object_format, name), runs)
     return found
+
+
+def has_dates(path):
+    """Whether each file of the graph at a path has the chunk of corrected dates."""
+    folders = [(os.path.dirname(path), [os.path.basename(path)])] if os.path.isfile(path) else []
+    folders += [(folder, names) for folder, _, names in os.walk(path)]
+    heads = []
+    for folder, names in folders:
+        for name in names:
+            with open(os.path.join(folder, name), "rb") as file:
+                heads.append(file.read(200))
+    return all(b"GDA2" in head for head in heads if head.startswith(b"CGPH"))
 
 
 def all_reached(words):

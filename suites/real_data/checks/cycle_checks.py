@@ -2,14 +2,15 @@
 
 A commit of Git's is never among its own ancestors; in a file one may be, if its generation number is at the cap. So the
 files are put together here, in one layer or up to three, and what is expected is found from the parents alone, as the
-definitions have it.
+definitions have it. Some have corrected dates, of times in any order, some of them equal or of more than 32 bits. Where a
+layer has none, or one of them is wrong by a second, the search goes by generation numbers.
 """
 
 import itertools
 import os
 import random
 import tempfile
-from typing import List, NamedTuple
+from typing import List, NamedTuple, Optional
 
 from checks import many
 from checks.base_checks import complaint_of
@@ -30,18 +31,23 @@ SETS = 5
 LAYERS = (1, 1, 2, 3)
 """A history has as many layers as one of these says."""
 
+DATES = ("none", "right", "right", "one wrong", "one layer without")
+"""What may be done about the dates of a history."""
+
 KINDS = {"nothing in common", "one base", "more bases"}
-KINDS |= {kind + ", at the cap" for kind in KINDS} | {"in common, and no base, at the cap"}
-"""All that has to come up. At the cap is the generation number of one of the commits that are asked for."""
+KINDS |= {kind + way for kind in KINDS for way in (", at the cap", ", by dates")} | {"in common, and no base, at the cap"}
+"""All that has to come up. At the cap is the generation number of one of the commits that are asked for. Where the search goes
+by dates, that is said in its place: no history with right dates has a cycle."""
 
 
 class History(NamedTuple):
-    """The parents of each commit, the commits to which a walk of one step or more leads from it, the generation numbers, and
-    the ids."""
+    """The parents of each commit, the commits to which a walk of one step or more leads from it, the generation numbers, the
+    corrected dates or None where they are not all right, and the ids."""
 
     parents: List[tuple]
     below: List[set]
     levels: List[int]
+    dates: Optional[List[int]]
     ids: List[str]
 
 
@@ -82,13 +88,22 @@ def written(info, chance):
     parents = further.history(starts, chance, chance.choice((0.1, 0.3, 0.6)))
     below = [proper_ancestors(parents, commit) for commit in range(len(parents))]
     levels, files = generations(parents, below), []
-    for part in [slice(*pair) for pair in zip(starts, starts[1:])]:
-        layer = further.Layer(part.start, [7] * len(parents[part]), parents[part], [])
-        files.append(further.file_of(kind, layer, levels[part], {}, files, chance))
+    times = [chance.choice(further.TIMES) for _ in parents]
+    parts = [slice(*pair) for pair in zip(starts, starts[1:])]
+    dates, done = further.settled(parents, [max(time, 1) for time in times]), chance.choice(DATES)
+    are_right = done == "right" and not any(commit in said for commit, said in enumerate(below))
+    if done == "one wrong":
+        dates[chance.randrange(len(dates))] += 1
+    without = parts if done == "none" else [chance.choice(parts)] if done == "one layer without" else []
+    for part in parts:
+        layer = further.Layer(part.start, times[part], parents[part], dates[part])
+        chunks = {} if part in without else further.right_dates(layer, chance)
+        files.append(further.file_of(kind, layer, levels[part], chunks, files, chance))
     trees.lay_out(info, trees.of_layers(kind, files))
     ids = b"".join(dict(contents(file, kind))[b"OIDL"] for file in files)
     size = ID_LENGTH[kind]
-    return History(parents, below, levels, [ids[at : at + size].hex() for at in range(0, len(ids), size)])
+    ids = [ids[at : at + size].hex() for at in range(0, len(ids), size)]
+    return History(parents, below, levels, dates if are_right else None, ids)
 
 
 def proper_ancestors(parents, commit):
@@ -117,11 +132,15 @@ def question(bench, info, history, commits):
     common = first & others
     bases = [base for base in common if not any(base in below[commit] for commit in common)]
     kind = ("one base", "more bases")[len(bases) > 1] if bases else "in common, and no base" if common else "nothing in common"
-    if any(other in below[other] for commits in reached for other in commits):
+    if history.dates:
+        kind += ", by dates"
+    elif any(other in below[other] for commits in reached for other in commits):
         kind += ", at the cap"
     place = {commit: number for number, commit in enumerate(history.ids)}
     status, text = bench.run("merge-base", info, *[history.ids[commit] for commit in commits])
     counts = len(first - others), len(others - first)
     reached = [sum(1 << other for other in below[commit] | {commit}) for commit in range(len(below))]
-    bounds = Visits(history.parents, history.levels, reached).bounds(commits[0], commits[1:], len(bases))
-    return complaint_of([history.ids[base] for base in bases], counts, bounds, Answer(status, text, b""), place), kind
+    by_number = Visits(history.parents, history.levels, reached)
+    visits = Visits(history.parents, history.dates, reached, cap=None) if history.dates else by_number
+    bounds, named = visits.bounds(commits[0], commits[1:], len(bases)), [history.ids[base] for base in bases]
+    return complaint_of(named, counts, bounds, Answer(status, text, b""), place), kind

@@ -19,6 +19,17 @@ def generations(words):
     return found
 
 
+def corrected_dates(words):
+    """The corrected date of each commit: its time, or 1 more than its parents' greatest date, if that is later.
+
+    The words are in an order in which parents come first.
+    """
+    found = {}
+    for commit, said in words.items():
+        found[commit] = max(said.time, 1 + max((found[parent] for parent in said.parents), default=0))
+    return found
+
+
 def places(layers):
     """The place of each commit among those of all layers, one layer after the other, in the order of ids."""
     order = [commit for layer in layers for commit in sorted(layer)]

@@ -1,0 +1,42 @@
+//! The corrected dates of a graph that was checked, for searches in their order.
+
+ghost use Rattle.std.specs.Prelude.{◌≡◌, IfSome, None};
+ghost use Rattle.graph_history.specs.GraphComparison.{AreDatesOf};
+
+use graph_chunks::dates::CorrectedDates;
+use graph_history::Checked;
+use std::alloc::Global;
+
+/// The corrected dates of a graph, once they were looked for and found right.
+#[derive(Drop)]
+pub(crate) struct KnownDates {
+    pub(crate) found: Option<CorrectedDates>,
+    has_looked: bool,
+}
+
+impl KnownDates {
+    /// Nothing was looked for.
+    pub(crate) fn new() -> KnownDates
+        ensures { result.found ≡ None }
+    {
+        KnownDates {
+            found: None,
+            has_looked: false,
+        }
+    }
+
+    /// Looks for the dates of a graph, unless that was done before. Where memory runs out, none are
+    /// known.
+    pub(crate) fn look(&mut self, alloc: Global, graph: &Checked<'_>)
+        requires { IfSome self.old.found (AreDatesOf graph.now.layers) }
+        ensures { IfSome self.new.found (AreDatesOf graph.now.layers) }
+    {
+        if self.has_looked {
+            return;
+        }
+        self.has_looked = true;
+        if let Ok(found) = graph.dates(alloc) {
+            self.found = found;
+        }
+    }
+}
