@@ -1,0 +1,4 @@
+pub mod ListLemmas
+pub mod BitLemmas
+pub mod GatherLemmas
+pub mod MadeLemmas

@@ -1,0 +1,3 @@
+pub mod Touched
+pub mod Made
+pub mod Steps
