@@ -5,5 +5,6 @@ pub mod BufferLemmas
 pub mod AncestorAnswers
 pub mod ToldLemmas
 pub mod CheckAnswers
+pub mod OpenerLemmas
 pub mod FindLemmas
 pub mod WordsLemmas

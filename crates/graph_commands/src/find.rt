@@ -4,15 +4,12 @@
 ghost use Rattle.std.specs.Prelude.{◌≡◌};
 ghost use Rattle.gix_hash_core.specs.Oid.{oid_bytes};
 ghost use Rattle.graph_layer.specs.OpenAnswer.{failures_after_opening};
-ghost use Rattle.gix_commitgraph.specs.Opening.{file_opened, chain_opened, InfoOpens};
-ghost use Rattle.graph_commands.specs.OpenerAnswer.{MayOpen, MayOpenBy, OpensAs};
+ghost use Rattle.gix_commitgraph.specs.Opening.{file_opened, chain_opened};
+ghost use Rattle.graph_commands.specs.OpenerAnswer.{MayOpen, OpensAs};
 ghost use Rattle.graph_commands.specs.Find.{FindsBy, MayBeFound};
 
 use crate::report::Found;
-use gix_commitgraph::opening::path::{info_chain_path, info_file_path};
-use gix_commitgraph::opening::{
-    OpenError, Standing, is_settled, open_chain_dir_in, open_file_in, stands_at,
-};
+use gix_commitgraph::opening::{OpenError, Opener, open_by, open_chain_dir_in, open_file_in};
 use gix_commitgraph::{Graph, Position};
 use gix_hash_core::oid;
 use graph_find::search::{FoundCommit, SearchAnswer, find_in_chain, find_in_file};
@@ -31,35 +28,53 @@ pub(crate) fn find_at<T: Folder>(
         (T.failure_count folder.new)) (oid_bytes id.entry) result }
     ensures tree { T.tree folder.new ≡ T.tree folder.old }
 {
-    match stands_at(alloc, folder, path)? {
-        Standing::File => find_in_one(alloc, folder, path, id),
-        Standing::ChainDir => find_in_layers(alloc, folder, path, id),
-        Standing::InfoDir => find_in_info(alloc, folder, path, id),
-        Standing::Nothing => Err(OpenError::NothingFound),
-    }
+    open_by(alloc, folder, path, &mut Finder { id })
 }
 
-/// The commit with an id, in the graph of the info folder at the path: that of its file, or where
-/// that is refused of its chain.
-fn find_in_info<T: Folder>(
-    alloc: Global,
-    folder: &mut T,
-    path: &str,
-    id: oid<'_>,
-) -> Result<Option<Found>, OpenError>
-    ensures finds { FindsBy
-        (MayOpenBy (T.tree folder.old)
-        (λ tree. InfoOpens tree path.now (T.failure_count folder.old) (T.failure_count folder.new))
-        (T.failure_count folder.old) (T.failure_count folder.new)) (oid_bytes id.entry) result }
-    ensures tree { T.tree folder.new ≡ T.tree folder.old }
-{
-    let file = info_file_path(alloc, path)?;
-    let answer = find_in_one(alloc, folder, file.as_str(), id);
-    if is_settled(&answer) {
-        return answer;
+/// Searches the graphs of files and of chain folders for the commit with an id.
+#[derive(Drop)]
+struct Finder<'i> {
+    id: oid<'i>,
+}
+
+impl Opener for Finder<'_> {
+    ghost use Rattle.std.specs.Prelude.{ℕ, List, ⊤};
+    ghost use Rattle.gix_hash_core.specs.Oid.{oid_bytes};
+    ghost use Rattle.gix_commitgraph.specs.Opening.{chain_opened, file_opened};
+    ghost use Rattle.graph_commands.specs.Find.{FindsBy};
+    ghost use Rattle.graph_commands.specs.OpenerAnswer.{OpensStopping};
+
+    type Opened = Option<Found>;
+
+    ghost Known = { List ℕ };
+
+    ghost known = { λ finder. oid_bytes finder.id };
+
+    ghost is_ready = { λ _. ⊤ };
+
+    ghost of_file = { λ id known path old new _ _.
+        FindsBy (OpensStopping known (λ tree. file_opened tree path) old new) id };
+
+    ghost of_chain = { λ id known path old new _ _.
+        FindsBy (OpensStopping known (λ tree. chain_opened tree path) old new) id };
+
+    fn file<T: Folder>(
+        &mut self,
+        alloc: Global,
+        folder: &mut T,
+        path: &str,
+    ) -> Result<Option<Found>, OpenError> {
+        find_in_one(alloc, folder, path, self.id)
     }
-    let chain = info_chain_path(alloc, path)?;
-    find_in_layers(alloc, folder, chain.as_str(), id)
+
+    fn chain<T: Folder>(
+        &mut self,
+        alloc: Global,
+        folder: &mut T,
+        path: &str,
+    ) -> Result<Option<Found>, OpenError> {
+        find_in_layers(alloc, folder, path, self.id)
+    }
 }
 
 /// The commit with an id, in the graph of the file at the path.
