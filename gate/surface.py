@@ -53,7 +53,7 @@ and the names of the items, or None where it uses all. Of graph_vectors, graph_h
 was planned with is fixed here.
 """
 
-PRIVATE = {"compare_ids"}
+PRIVATE = {"compare_ids", "WholeOpener"}
 """What is public in a private module alone."""
 
 UNSEEN_TRAITS = {"Model", "PlanView"}
@@ -120,7 +120,8 @@ def missing_in(path, text, wanted, uses, traits):
         if (wanted is None or owner in wanted) and owner not in PRIVATE and not re.search(pattern, uses):
             yield name
     for owner, trait in traits_in(text):
-        if (wanted is None or owner in wanted) and trait not in traits.get(owner, set()) | UNSEEN_TRAITS:
+        seen = traits.get(owner, set()) | UNSEEN_TRAITS
+        if (wanted is None or owner in wanted) and owner not in PRIVATE and trait not in seen:
             yield "%s for %s" % (trait, owner)
 
 

@@ -4,7 +4,7 @@ ghost use Rattle.std.specs.Prelude.{◌≡◌, IfOk, string_bytes};
 ghost use Rattle.gix_commitgraph.specs.Paths.{join_path, layer_path};
 
 use crate::bounds;
-use gix_commitgraph::opening::{self, OpenError, Standing, path};
+use gix_commitgraph::opening::{self, OpenError, Opener, Standing, path};
 use gix_commitgraph::{File, FileError, Graph, GraphError};
 use graph_folder::chain::Lines;
 use graph_folder::folder::{Folder, ReadError};
@@ -45,6 +45,50 @@ fn info_dir_in<T: Folder>(alloc: Global, folder: &mut T, path: &str) -> Result<G
 
 fn chain_dir_in<T: Folder>(alloc: Global, folder: &mut T, path: &str) -> Result<Graph, OpenError> {
     opening::open_chain_dir_in(alloc, folder, path)
+}
+
+fn by_opener<T: Folder, O: Opener>(
+    alloc: Global,
+    folder: &mut T,
+    path: &str,
+    opener: &mut O,
+) -> Result<O::Opened, OpenError>
+    requires { O.is_ready opener.old }
+{
+    opening::open_by(alloc, folder, path, opener)
+}
+
+fn info_by_opener<T: Folder, O: Opener>(
+    alloc: Global,
+    folder: &mut T,
+    path: &str,
+    opener: &mut O,
+) -> Result<O::Opened, OpenError>
+    requires { O.is_ready opener.old }
+{
+    opening::open_info_by(alloc, folder, path, opener)
+}
+
+fn file_by_opener<T: Folder, O: Opener>(
+    alloc: Global,
+    folder: &mut T,
+    path: &str,
+    opener: &mut O,
+) -> Result<O::Opened, OpenError>
+    requires { O.is_ready opener.old }
+{
+    Opener::file(opener, alloc, folder, path)
+}
+
+fn chain_by_opener<T: Folder, O: Opener>(
+    alloc: Global,
+    folder: &mut T,
+    path: &str,
+    opener: &mut O,
+) -> Result<O::Opened, OpenError>
+    requires { O.is_ready opener.old }
+{
+    Opener::chain(opener, alloc, folder, path)
 }
 
 fn read_chain<T: Folder>(alloc: Global, folder: &mut T, path: &str) -> Result<Vec<u8>, OpenError> {
