@@ -34,8 +34,8 @@ late_child = tree_line ++ parent_line root_digits ++ rest_at (codes "4294967400"
 
 unfoldable pub octopus : List ℕ
 octopus = tree_line
-  ++ parent_line early_child_digits ++ parent_line late_child_digits ++ parent_line merge_digits
-  ++ rest_at (codes "4294967500")
+    ++ parent_line early_child_digits ++ parent_line late_child_digits ++ parent_line merge_digits
+    ++ rest_at (codes "4294967500")
 
 unfoldable pub merge : List ℕ
 merge = tree_line ++ parent_line early_child_digits ++ parent_line late_child_digits ++ rest_at (codes "4294967350")
