@@ -100,9 +100,9 @@ def check_kind(programs, results, new):
     repository.write_graph("--split=no-merge")
     path, kind = repository.info_path(), repository.object_format
     asked = list(questions(repository))
-    answers = [answer_alone(programs, path, question, repository) for question in asked]
     for way in WAYS:
         title = "%s, %s" % (kind, " ".join(way))
+        answers = [answer_alone(programs, path, question, repository, way[1:]) for question in asked]
         check_way(histories, results, title, [*way, path], list(zip(asked, answers)))
         check_reload(programs, results, repository, history, way)
     for name, complaint in in_turn(histories, new("questions over graphs in turn")):
@@ -143,8 +143,9 @@ def questions(repository):
     yield from NO_QUESTIONS
 
 
-def answer_alone(programs, path, question, repository):
-    """What has to be told for a question: what the command of its name writes, or Git's own word on parents."""
+def answer_alone(programs, path, question, repository, options=()):
+    """What has to be told for a question: what the command of its name writes, with these options where it is about the history, or
+    Git's own word on parents."""
     if question in NO_QUESTIONS:
         return "refused question\n\n"
     word, *names = question.split(" ")
@@ -152,7 +153,9 @@ def answer_alone(programs, path, question, repository):
         found = repository.git("rev-list", "--all", "--parents").decode().splitlines()
         parents = [line.split()[1:] for line in found if line.split()[0] == names[0].lower()]
         return "".join(" ".join(["parents", *some]) for some in parents or []) + ("\n\n" if parents else "unknown 1\n\n")
-    return programs[word != "find"].run(word, path, *names, stdin=subprocess.DEVNULL).out.decode() + "\n"
+    if word == "find":
+        return programs[0].run(word, path, *names, stdin=subprocess.DEVNULL).out.decode() + "\n"
+    return programs[1].run(word, *options, path, *names, stdin=subprocess.DEVNULL).out.decode() + "\n"
 
 
 def over_pipes(command, asked, commits, **streams):
