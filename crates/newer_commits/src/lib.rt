@@ -1,9 +1,9 @@
 //! Commits newer than a commit-graph, on top of it.
 //!
-//! A [`Base`] is a source of commits in which these can be found by their ids, as a graph in memory.
-//! A [`Newer`] is a base with commits on top that it lacks, each added after its parents by the
-//! contents of its object. It is a source of commits itself, over which every search runs that runs
-//! over the base ("generation number" in Git's commit-graph design).
+//! A [`Base`] is a source of commits in which these can be found by their ids, as a right graph in
+//! memory is. A [`Newer`] is a base with commits on top that it lacks, each added after its parents
+//! by the contents of its object. It is a source of commits itself, over which every search runs
+//! that runs over the base ("generation number" in Git's commit-graph design).
 #![tactic(auto)]
 
 mod add;
