@@ -87,9 +87,9 @@ def check_sets(histories, results, repository, name, words, graphs, sets):
     def answer(ids):
         bases, (first, *rest) = repository.merge_bases(*ids), (number[commit] for commit in ids)
         told = []
-        for path, place in graphs.items():
-            told.append((visits[path].bounds(first, rest, len(bases)), histories.merge_base(path, *ids), place))
-            told.append((by_number.bounds(first, rest, len(bases)), histories.merge_base_unchecked(path, *ids), place))
+        for graph, places_of in graphs.items():
+            told.append((visits[graph].bounds(first, rest, len(bases)), histories.merge_base(graph, *ids), places_of))
+            told.append((by_number.bounds(first, rest, len(bases)), histories.merge_base_unchecked(graph, *ids), places_of))
         alone = [run(path, *ids) for run in asked_for_ids]
         return bases, divergence(reached, *ids), repository.divergence(*ids), told, alone
 
