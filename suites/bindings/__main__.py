@@ -588,7 +588,7 @@ def names_of_the_original(crate, environment, scratch):
     done, program = gix.build(crate, environment)
     expect("gix-commitgraph: each public item", done.returncode == 0, done)
     done = run("cargo", "test", "--quiet", "--offline", "--tests", "--features", "sha1,sha256", cwd=crate, env=environment)
-    expect("gix-commitgraph: tests", done.returncode == 0 and "6 passed" in done.stdout, done)
+    expect("gix-commitgraph: tests", done.returncode == 0 and "7 passed" in done.stdout, done)
     done, original = gix.build_original(crate, environment, scratch)
     expect("gix-commitgraph: each public item of the original", done is None or done.returncode == 0, done)
     known, unknown = gix.recorded(), 0
