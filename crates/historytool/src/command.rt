@@ -87,7 +87,7 @@ pub enum Command<'a> {
         /// The path of the graph.
         path: &'a str,
     },
-    /// The ids of the graph are to be listed_reply.
+    /// The ids of the graph are to be listed.
     Ids {
         /// The path of the graph.
         path: &'a str,
