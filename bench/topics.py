@@ -12,16 +12,43 @@ from histories import repository, shapes
 
 COMMITS = 1_000_000
 LAYERS = 10
+SELDOM = 1 / 1400
+"""Of the topics of two histories so many begin elsewhere than the others. It makes one of some 20,000 commits."""
+BACK = 300_000
+"""So many commits before it a topic begins then."""
 PAIRS = {"any": 100, "newest": 1000, "same": 1000}
 """How many pairs of each kind are asked for: of all commits, of the newest ones, and of a commit with itself."""
 NEWEST = 2000
 """The pairs of the second kind are of so many commits."""
 
 
-class Made:
-    """The repository of the commits, its commit-graphs, and the pairs that are asked for."""
+class OldBranches(shapes.Topics):
+    """Topics, of which some begin far back."""
 
-    def __init__(self, folder):
+    def begin(self):
+        """A topic begins."""
+        if self.chance.random() < SELDOM:
+            self.topics.append(self.commit(max(0, len(self.commits) - BACK)))
+        else:
+            super().begin()
+
+
+HISTORIES = {
+    "topics": lambda: shapes.Topics(seed=9, disorder=0.01, roots=0),
+    "roots": lambda: shapes.Topics(seed=9, disorder=0.01, roots=SELDOM),
+    "old branches": lambda: OldBranches(seed=9, disorder=0.01, roots=0),
+}
+"""The histories by their names: topics alone, topics of which some have a root of their own, and some that begin far back."""
+
+
+class Made:
+    """The repository of the commits of a history, its commit-graphs, and the pairs that are asked for."""
+
+    def __init__(self, folder, history="topics"):
+        if history != "topics":
+            folder = os.path.join(folder, history.replace(" ", "_"))
+            os.makedirs(folder, exist_ok=True)
+        self.history = history
         self.folder = os.path.join(folder, "topics.git")
         self.pairs = [os.path.join(folder, kind) for kind in ("any", "newest", "same")]
         ids_path = os.path.join(folder, "ids")
@@ -38,7 +65,7 @@ class Made:
 
     def write(self, ids_path):
         """Makes the repository, with the layer and with the chain."""
-        made, history = repository.Repository(self.folder, "sha1"), shapes.topics(COMMITS, seed=9, disorder=0.01, roots=0)
+        made, history = repository.Repository(self.folder, "sha1"), grown(HISTORIES[self.history]())
         marks = os.path.join(self.folder, "marks")
         load = ["git", "-C", self.folder, "fast-import", "--quiet", "--export-marks=" + marks]
         with subprocess.Popen(load, stdin=subprocess.PIPE) as run:
@@ -63,6 +90,13 @@ class Made:
         """The paths of the chain's files, the lowest first."""
         with open(os.path.join(self.folder + ".chain", "commit-graph-chain")) as file:
             return [os.path.join(self.folder + ".chain", "graph-%s.graph" % name) for name in file.read().split()]
+
+
+def grown(topics):
+    """The commits of topics that have grown."""
+    while len(topics.commits) < COMMITS:
+        topics.grow()
+    return topics.commits[:COMMITS]
 
 
 def commit_command(place, commit):

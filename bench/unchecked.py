@@ -3,10 +3,11 @@
 
 usage: python3 bench/unchecked.py FOLDER [COMMITS ..]
 
-FOLDER keeps the million commits of bench/topics.py for further runs; making them takes minutes. A line a kind of pairs, of the
-newest 1,000 commits and of all, in milliseconds a process: the elapsed and the processor time of
-`historytool is-ancestor --unchecked`, those of `git merge-base --is-ancestor`, and the ratios. The processes take turns, and all
-is read once before. Each has to answer as Git does. The rows `merge-base` are `historytool merge-base-ids --unchecked` beside
+FOLDER keeps the three histories of bench/topics.py, a million commits each, for further runs; making one takes minutes. A line
+a history and a kind of pairs, of the newest 1,000 commits, of the newest 20,000 and of all, in milliseconds a process: the
+elapsed and the processor time of `historytool is-ancestor --unchecked`, those of `git merge-base --is-ancestor`, the ratios of
+both, and of the processor times the greatest ratio of one pair. The processes take turns, and all is read once before. Each
+has to answer as Git does. The rows `merge-base` are `historytool merge-base-ids --unchecked` beside
 `git merge-base --all`. A row `git cgraph` is `git cgraph is-ancestor --unchecked`, which finds the
 commit-graph and the ids, and the row `rev-parse` one call of Git for that. The row `git cgraph verify` stands beside
 `graphtool verify`, and the row `git cgraph --version` alone: what `git cgraph` adds to a program. It is installed in FOLDER.
@@ -23,11 +24,10 @@ import time
 
 import common
 from processes import random_layer
-from topics import Made
+from topics import COMMITS, HISTORIES, Made
 
-PAIRS = {"newest": 300, "any": 40}
-"""So many pairs are asked for."""
-NEAR = 1000
+PAIRS = {"newest 1,000": (1000, 300), "newest 20,000": (20_000, 100), "any": (COMMITS, 40)}
+"""Of so many of the newest commits so many pairs are asked for."""
 CHECKS = 10
 """So often the whole is checked in a round."""
 ROUNDS = 3
@@ -38,34 +38,50 @@ def main(folder, *sizes):
     """Prints the figures, and answers the exit status."""
     folder = os.path.abspath(folder)
     os.makedirs(folder, exist_ok=True)
-    made, program = Made(folder), common.program("historytool")
     install(folder)
     common.print_load()
-    print("%-24s %9s %9s %9s %9s %7s %7s" % ("ms", "elapsed", "own", "Git", "own", "ratio", "own"))
-    chance, info, git = random.Random(7), os.path.join(made.folder, "objects", "info"), ["git", "-C", made.folder]
-    same = True
-    for kind, count in PAIRS.items():
-        pairs = [chance.choices(made.ids[-NEAR:] if kind == "newest" else made.ids, k=2) for _ in range(count)]
-        ours = [[program, "is-ancestor", "--unchecked", info, *pair] for pair in pairs]
-        theirs = [[*git, "merge-base", "--is-ancestor", *pair] for pair in pairs]
-        same = report("is-ancestor, " + kind, ours, theirs) and same
-        bases = [[program, "merge-base-ids", "--unchecked", info, *pair] for pair in pairs]
-        same = report("merge-base, " + kind, bases, [[*git, "merge-base", "--all", *pair] for pair in pairs]) and same
-        if kind == "newest":
-            cgraph = [["git", "-C", made.folder, "cgraph", "is-ancestor", "--unchecked", *pair] for pair in pairs[:50]]
-            same = report("git cgraph is-ancestor", cgraph, theirs[:50]) and same
-            names = [[*git, "rev-parse", "--git-path", "objects/info", *pair] for pair in pairs[:50]]
-            report("git rev-parse", names, names)
-    verify = [[common.program(), "verify", info]] * CHECKS
-    same = report("git cgraph verify", [["git", "-C", made.folder, "cgraph", "verify"]] * CHECKS, verify) and same
-    report("git cgraph --version", [["git", "cgraph", "--version"]] * CHECKS, [])
+    print("%-40s %9s %9s %9s %9s %7s %7s %7s" % ("ms", "elapsed", "own", "Git", "own", "ratio", "own", "most"))
+    agreed = [report_pairs(Made(folder, history), kind) for history in HISTORIES for kind in PAIRS]
+    agreed.append(report_wrapper(Made(folder)))
     for size in map(int, sizes):
-        path = random_layer(folder, size)
-        for kind, count in PAIRS.items():
-            numbers = range(size - NEAR, size) if kind == "newest" else range(size)
-            pairs = [[commit_id(number) for number in chance.choices(numbers, k=2)] for _ in range(count)]
-            report("%d, %s" % (size, kind), [[program, "is-ancestor", "--unchecked", path, *pair] for pair in pairs], [])
-    return 0 if same else 1
+        report_size(folder, size)
+    return 0 if all(agreed) else 1
+
+
+def report_pairs(made, kind):
+    """Prints the lines of a kind of pairs of a history, and answers whether ours and Git say the same."""
+    newest, count = PAIRS[kind]
+    chance, info, git = random.Random(7), os.path.join(made.folder, "objects", "info"), ["git", "-C", made.folder]
+    pairs = [chance.choices(made.ids[-newest:], k=2) for _ in range(count)]
+    program, same = common.program("historytool"), True
+    for name, ours, theirs in (("is-ancestor", "is-ancestor", "--is-ancestor"), ("merge-base", "merge-base-ids", "--all")):
+        own = [[program, ours, "--unchecked", info, *pair] for pair in pairs]
+        other = [[*git, "merge-base", theirs, *pair] for pair in pairs]
+        same = report("%s: %s, %s" % (made.history, name, kind), own, other) and same
+    return same
+
+
+def report_wrapper(made):
+    """Prints what `git cgraph` adds to a program, and answers whether it says the same."""
+    chance, git = random.Random(7), ["git", "-C", made.folder]
+    pairs = [chance.choices(made.ids[-1000:], k=2) for _ in range(50)]
+    cgraph = [[*git, "cgraph", "is-ancestor", "--unchecked", *pair] for pair in pairs]
+    same = report("git cgraph is-ancestor", cgraph, [[*git, "merge-base", "--is-ancestor", *pair] for pair in pairs])
+    names = [[*git, "rev-parse", "--git-path", "objects/info", *pair] for pair in pairs]
+    report("git rev-parse", names, names)
+    verify = [[common.program(), "verify", os.path.join(made.folder, "objects", "info")]] * CHECKS
+    same = report("git cgraph verify", [[*git, "cgraph", "verify"]] * CHECKS, verify) and same
+    report("git cgraph --version", [["git", "cgraph", "--version"]] * CHECKS, [])
+    return same
+
+
+def report_size(folder, size):
+    """Prints the lines of a layer of so many commits."""
+    program, path, chance = common.program("historytool"), random_layer(folder, size), random.Random(7)
+    for kind, (newest, count) in PAIRS.items():
+        numbers = range(max(0, size - newest), size) if newest < COMMITS else range(size)
+        pairs = [[commit_id(number) for number in chance.choices(numbers, k=2)] for _ in range(count)]
+        report("%d, %s" % (size, kind), [[program, "is-ancestor", "--unchecked", path, *pair] for pair in pairs], [])
 
 
 def report(figure, ours, theirs):
@@ -73,11 +89,12 @@ def report(figure, ours, theirs):
     for command in (*ours, *theirs):
         taken(command)
     runs = [[(taken(own), taken(other)) for own, other in zip(ours, theirs or ours)] for _ in range(ROUNDS)]
-    sums = [[sum(min(run[at][who][part] for run in runs) for at in range(len(ours))) for part in (1, 2)] for who in (0, 1)]
-    own, other = [[1000 * part / len(ours) for part in parts] for parts in sums]
-    print("%-24s %9.2f %9.2f" % (figure, *own), end="")
+    least = [[[min(run[at][who][part] for run in runs) for part in (1, 2)] for who in (0, 1)] for at in range(len(ours))]
+    own, other = [[sum(1000 * pair[who][part] for pair in least) / len(ours) for part in (0, 1)] for who in (0, 1)]
+    print("%-40s %9.2f %9.2f" % (figure, *own), end="")
     if theirs:
-        print(" %9.2f %9.2f %7.2f %7.2f" % (*other, own[0] / other[0], own[1] / other[1]), end="")
+        most = max(pair[0][1] / pair[1][1] for pair in least)
+        print(" %9.2f %9.2f %7.2f %7.2f %7.2f" % (*other, own[0] / other[0], own[1] / other[1], most), end="")
     print(flush=True)
     return all(first[0] == second[0] for first, second in runs[0]) or not theirs
 
