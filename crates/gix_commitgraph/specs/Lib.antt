@@ -37,6 +37,7 @@ pub mod Sound
 pub mod Paths
 pub mod OpenAlways
 pub mod Opening
+pub mod WasRead
 pub mod ByStanding
 pub mod WholeOpening
 pub mod Statistics

@@ -12,6 +12,8 @@
 ghost use Rattle.std.specs.Prelude.{IfOk, IfErr, MatchResult};
 ghost use Rattle.gix_commitgraph.specs.Graph.{IsGraph};
 ghost use Rattle.gix_commitgraph.specs.OpenAlways.{IsFromPath, IsPathError};
+ghost use Rattle.gix_commitgraph.specs.WasRead.{PathWasRead};
+ghost use Rattle.graph_folder.specs.Reads.{AreAllOfFile};
 ghost use Rattle.graph_layer.specs.OpenRefusals.{OutOfMemoryStandsAlone};
 
 mod access;
@@ -38,6 +40,8 @@ use std::rt::Files;
 /// [`Graph::at`].
 pub fn at<R: Files>(rt: &R, alloc: Global, path: &str) -> Result<Graph, OpenError>
     ensures from { MatchResult result (IsFromPath path.now) IsPathError }
+    ensures given { IfOk result (PathWasRead
+        (λ _ bytes. AreAllOfFile R.File.remaining bytes) path.now) }
     ensures graph { IfOk result IsGraph }
     ensures memory { IfErr result OutOfMemoryStandsAlone }
 {

@@ -12,6 +12,7 @@ ghost use Rattle.gix_commitgraph.specs.Graph.{IsGraph};
 ghost use Rattle.gix_commitgraph.specs.OpenAlways.{IsErrorOfLayers, IsFromPath, IsPathError};
 ghost use Rattle.gix_commitgraph.specs.Opening.{Opens, MetFailureIfDevice};
 ghost use Rattle.gix_commitgraph.specs.Opening.{graph_of_layers, standing_at};
+ghost use Rattle.gix_commitgraph.specs.WasRead.{PathWasRead};
 ghost use Rattle.graph_layer.specs.OpenAnswer.{IsAsExpected};
 ghost use Rattle.graph_layer.specs.OpenRefusals.{OutOfMemoryStandsAlone};
 
@@ -87,6 +88,7 @@ pub fn open_in<T: Folder>(alloc: Global, folder: &mut T, path: &str) -> Result<G
         (T.failure_count folder.new) }
     ensures tree { T.tree folder.new ≡ T.tree folder.old }
     ensures from { MatchResult result (IsFromPath path.now) IsPathError }
+    ensures given { IfOk result (PathWasRead T.gives path.now) }
     ensures graph { IfOk result IsGraph }
     ensures memory { IfErr result OutOfMemoryStandsAlone }
 {

@@ -44,10 +44,23 @@ pub struct Part {
 }
 
 /// Files and folders by their paths, which are texts. Where it is known what stands at each path,
-/// the calls answer by that, and none of them changes it.
+/// the calls answer by that, and none of them changes it. Where it is not known, others may write
+/// between two calls: then `gives` and `gives_part` say what each read answered with.
 pub trait Folder {
+    ghost use Rattle.std.specs.Prelude.{ℕ, List, Option};
+    ghost use Rattle.graph_folder.specs.Tree.{Tree};
+    ghost use Rattle.graph_folder.specs.declared.folder.Part.{Part};
+
     /// What stands at each path, where that is known.
     ghost tree: { Self → Option Tree };
+
+    /// These bytes were the whole file at this path when some read of it answered with them,
+    /// whatever stood there before that read or after it.
+    ghost gives: { List ℕ → List ℕ → Type 0 } = { λ _ _. Unit };
+
+    /// This was a part of the file at this path, from this offset on, when some read of it
+    /// answered with that part.
+    ghost gives_part: { List ℕ → ℕ → Part → Type 0 } = { λ _ _ _. Unit };
 
     /// How many reads the device has failed so far; the count stays at the greatest `u64`.
     ghost failure_count: { Self → ℕ };
@@ -79,6 +92,7 @@ pub trait Folder {
             IfOk result (λ bytes. file_at t path.now ≡ Some bytes.items)) }
         ensures not_opened { ForSome (tree self.old) (λ t.
             IsErrOf result ReadError.NotOpened → file_at t path.now ≡ None) }
+        ensures given { IfOk result (λ bytes. gives path.now bytes.items) }
         ensures tree { tree self.new ≡ tree self.old }
         ensures failures { failure_count self.new
             ≡ failures_after result (failure_count self.old) };
@@ -90,6 +104,7 @@ pub trait Folder {
             IfOk result (λ same. IsTrue same ↔ (file_at t path.now ≡ Some bytes.now))) }
         ensures not_opened { ForSome (tree self.old) (λ t.
             IsErrOf result ReadError.NotOpened → file_at t path.now ≡ None) }
+        ensures given { IfOk result (λ same. IsTrue same → gives path.now bytes.now) }
         ensures tree { tree self.new ≡ tree self.old }
         ensures failures { failure_count self.new
             ≡ failures_after result (failure_count self.old) }
@@ -114,6 +129,7 @@ pub trait Folder {
             length part.bytes.items ≡ min len (part.file_len - start)) }
         ensures not_opened { ForSome (tree self.old) (λ t.
             IsErrOf result ReadError.NotOpened → file_at t path.now ≡ None) }
+        ensures given { IfPart result (gives_part path.now start) }
         ensures tree { tree self.new ≡ tree self.old }
         ensures failures { failure_count self.new
             ≡ failures_after result (failure_count self.old) }

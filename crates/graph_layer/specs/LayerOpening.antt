@@ -3,7 +3,7 @@ use Rattle.std.specs.Prelude.{◌≡◌, ℕ, List, ⊤}
 use Rattle.std.specs.Option.{ok_or}
 use Rattle.std.specs.declared.result.Result.{Result}
 use Rattle.graph_folder.specs.Tree.{Tree, file_at}
-use Rattle.graph_format.specs.Layer.{Layer}
+use Rattle.graph_format.specs.Layer.{IsLayer, Layer}
 use Rattle.graph_layer.specs.OpenAnswer.{and_then, result_map_err}
 use Rattle.graph_format.specs.Opened.{layer_of}
 use Rattle.graph_layer.specs.OpenRefusals.{layer_refused}
@@ -21,6 +21,13 @@ layer_of_bytes i bytes path = result_map_err (layer_refused i) (layer_of bytes p
 -- the layer of the file at a path
 abbrev pub layer_at : Tree → ℕ → List ℕ → Result Layer OpenError
 layer_at tree i path = and_then (bytes_at tree path) (λ bytes. layer_of_bytes i bytes path)
+
+-- The layer is a file that was there, as it was read: a read of its path gave these bytes, the whole file, and they are the file of
+-- this layer.
+pub record LayerWasRead (gives : List ℕ → List ℕ → Type 0) (layer : Layer) : Type 0 where
+  pub bytes : List ℕ
+  pub given : gives layer.path bytes
+  pub spelled : IsLayer bytes layer.path layer
 
 -- the errors of reading a file
 abbrev pub IsReadError : OpenError → Type 0

@@ -3,7 +3,9 @@
 ghost use Rattle.std.specs.Prelude.{◌≡◌, IfOk, IfErr, IsErrOf, string_bytes};
 ghost use Rattle.std.specs.Option.{ForSome};
 ghost use Rattle.graph_layer.specs.LayerOpening.{bytes_at, layer_of_bytes, layer_at, IsReadError};
-ghost use Rattle.graph_layer.specs.LayerOpening.{IsLayerError};
+ghost use Rattle.graph_layer.specs.LayerOpening.{IsLayerError, LayerWasRead};
+ghost use Rattle.graph_folder.specs.Reads.{AreAllOfFile};
+ghost use Rattle.graph_format.specs.Layer.{IsLayer};
 ghost use Rattle.graph_layer.specs.OpenAnswer.{IsAsExpected, failures_after_opening, result_map};
 ghost use Rattle.graph_layer.specs.OpenRefusals.{OutOfMemoryStandsAlone};
 
@@ -30,6 +32,8 @@ impl File {
     /// `OutOfMemory` comes where an allocation failed.
     pub fn at<R: Files>(rt: &R, alloc: Global, path: &str) -> Result<File, OpenError>
         ensures path { IfOk result (λ file. file.path ≡ path.now) }
+        ensures given { IfOk result (LayerWasRead (λ _ bytes.
+            AreAllOfFile R.File.remaining bytes)) }
         ensures errors { IfErr result (IsLayerError 0) }
         ensures memory { IfErr result OutOfMemoryStandsAlone }
     {
@@ -47,6 +51,7 @@ pub fn open_layer<T: Folder>(
     ensures opens { ForSome (T.tree folder.old) (λ tree.
         IsAsExpected result (layer_at tree layer (string_bytes path))) }
     ensures path { IfOk result (λ file. file.path ≡ string_bytes path) }
+    ensures given { IfOk result (LayerWasRead T.gives) }
     ensures tree { T.tree folder.new ≡ T.tree folder.old }
     ensures failures { T.failure_count folder.new
         ≡ failures_after_opening result (T.failure_count folder.old) }
@@ -69,6 +74,7 @@ pub fn share_layer(file: &File) -> Result<File, AllocError>
 pub fn read_file<T: Folder>(alloc: Global, folder: &mut T, path: &str) -> Result<Vec<u8>, OpenError>
     ensures opens { ForSome (T.tree folder.old)
         (λ tree. IsAsExpected (result_map (λ bytes. bytes.items) result) (bytes_at tree path.now)) }
+    ensures given { IfOk result (λ bytes. T.gives path.now bytes.items) }
     ensures tree { T.tree folder.new ≡ T.tree folder.old }
     ensures failures { T.failure_count folder.new
         ≡ failures_after_opening result (T.failure_count folder.old) }
@@ -82,6 +88,7 @@ pub fn read_file<T: Folder>(alloc: Global, folder: &mut T, path: &str) -> Result
 fn new_layer(alloc: Global, layer: usize, bytes: Vec<u8>, path: String) -> Result<File, OpenError>
     ensures opens { IsAsExpected result (layer_of_bytes layer bytes.items (string_bytes path)) }
     ensures path { IfOk result (λ file. file.path ≡ string_bytes path) }
+    ensures spelled { IfOk result (IsLayer bytes.items (string_bytes path)) }
     ensures no_device { ¬ (IsErrOf result OpenError.Device) }
     ensures errors { IfErr result (IsLayerError layer) }
     ensures memory { IfErr result OutOfMemoryStandsAlone }

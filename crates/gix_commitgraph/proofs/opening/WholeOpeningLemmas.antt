@@ -15,12 +15,13 @@ use Rattle.gix_commitgraph.specs.ByStanding.{InfoComes, PathComes, StandingComes
 use Rattle.gix_commitgraph.specs.Graph.{IsGraph}
 use Rattle.gix_commitgraph.specs.OpenAlways.{IsFolderError, IsFromInfo, IsFromPath, IsPathError}
 use Rattle.gix_commitgraph.specs.Opening.{InfoOpens, MetFailureIfDevice, Opens, StandingOpens, standing_at}
+use Rattle.gix_commitgraph.specs.WasRead.{InfoWasRead, PathWasRead}
 use Rattle.gix_commitgraph.specs.WholeOpening.{WholeChain, WholeFile}
 use Rattle.gix_commitgraph.specs.declared.opening.Standing.{Standing}
 use Rattle.gix_commitgraph.specs.declared.opening.Standing.TheVariants.{File, ChainDir, InfoDir, Nothing}
 use Rattle.gix_commitgraph.proofs.opening.InfoOpeningLemmas.{failures_after_opening-le, info_opens-chain, info_opens-file}
 use Rattle.gix_commitgraph.proofs.opening.OpenErrorLemmas.{folder_error-file}
-use Rattle.gix_commitgraph.proofs.opening.OpenedPathLemmas.{from_wider}
+use Rattle.gix_commitgraph.proofs.opening.OpenedPathLemmas.{from_wider, ok_wider}
 
 -- a failed device is answered only where the count rose
 pub device-counted : (answer : Result (List Layer) OpenError) (old mid new : ℕ) → (old < 2 ^ 64 - 1 → old ≤ mid)
@@ -42,35 +43,39 @@ path_error (graph_error error) is = is
 path_error OutOfMemory is = is
 
 -- What the opener of an info folder answers.
-pub record InfoAnswer (known : Option Tree) (folder : List ℕ) (old new : ℕ) (answer : Result (List Layer) OpenError)
-    : Type 0 where
+pub record InfoAnswer (known : Option Tree) (gives : List ℕ → List ℕ → Type 0) (folder : List ℕ) (old new : ℕ)
+    (answer : Result (List Layer) OpenError) : Type 0 where
   pub opens : ForSome known (λ (tree : Tree). InfoOpens tree folder old new answer)
   pub device : MetFailureIfDevice answer old new
   pub from : MatchResult answer (IsFromInfo folder) IsFolderError
+  pub given : IfOk answer (InfoWasRead gives folder)
   pub graph : IfOk answer IsGraph
   pub memory : IfErr answer OutOfMemoryStandsAlone
 
 -- And that of a path.
-pub record PathAnswer (known : Option Tree) (path : List ℕ) (old new : ℕ) (answer : Result (List Layer) OpenError) : Type 0 where
+pub record PathAnswer (known : Option Tree) (gives : List ℕ → List ℕ → Type 0) (path : List ℕ) (old new : ℕ)
+    (answer : Result (List Layer) OpenError) : Type 0 where
   pub opens : ForSome known (λ (tree : Tree). Opens tree path old new answer)
   pub device : MetFailureIfDevice answer old new
   pub from : MatchResult answer (IsFromPath path) IsPathError
+  pub given : IfOk answer (PathWasRead gives path)
   pub graph : IfOk answer IsGraph
   pub memory : IfErr answer OutOfMemoryStandsAlone
 
 abbrev refused : OpenError → Result (List Layer) OpenError
 refused error = Err error
 
-module _ {S : Type 0} (known : Option Tree) (path : List ℕ) (old new : ℕ) (before after : S)
+module _ {S : Type 0} (known : Option Tree) (gives : List ℕ → List ℕ → Type 0) (path : List ℕ) (old new : ℕ) (before after : S)
     (answer : Result (List Layer) OpenError) where
   -- of its file, or of its chain folder, where the file is refused
-  pub info_whole : InfoComes (λ (file : List ℕ) (from to : ℕ) (first then : S). WholeFile known file from to)
-      (λ (chain : List ℕ) (from to : ℕ) (first then : S). WholeChain known chain from to) path old new before after answer
-      → InfoAnswer known path old new answer
+  pub info_whole : InfoComes (λ (file : List ℕ) (from to : ℕ) (first then : S). WholeFile known gives file from to)
+      (λ (chain : List ℕ) (from to : ℕ) (first then : S). WholeChain known gives chain from to) path old new before after answer
+      → InfoAnswer known gives path old new answer
   info_whole (inl of) = record {
     opens = λ tree is. info_opens-file tree path old new answer of.0 (of.1.opens tree is) of.1.failures;
     device = device-counted answer old old new (λ small. omega arith) of.1.failures;
     from = from_wider _ (IsFromInfo path) _ _ answer (λ layers from. inl from) folder_error-file of.1.from;
+    given = ok_wider _ (InfoWasRead gives path) answer (λ layers was. inl was) of.1.given;
     graph = of.1.graph;
     memory = of.1.memory;
   }
@@ -82,30 +87,33 @@ module _ {S : Type 0} (known : Option Tree) (path : List ℕ) (old new : ℕ) (b
         device-counted answer old of.failures new
         (λ small. omega (arith, failures_after_opening-le of.refusal old (omega arith), of.file.failures)) of.chain.failures;
     from = from_wider _ (IsFromInfo path) _ _ answer (λ layers from. inr from) (λ error is. is) of.chain.from;
+    given = ok_wider _ (InfoWasRead gives path) answer (λ layers was. inr was) of.chain.given;
     graph = of.chain.graph;
     memory = of.chain.memory;
   }
   info_whole (inr (inr of)) =
-      subst (InfoAnswer known path old new) (sym of.0)
+      subst (InfoAnswer known gives path old new) (sym of.0)
       (record {
         opens = λ tree is. (λ met. tt, λ met. tt);
         device = λ clash small. let none : refused OutOfMemory ≡ refused Device = clash in cc;
         from = tt;
+        given = tt;
         graph = tt;
         memory = tt;
       })
 
   -- of what stands at the path
   standing_whole : (standing : Standing)
-      → StandingComes standing (λ (file : List ℕ) (from to : ℕ) (first then : S). WholeFile known file from to)
-      (λ (chain : List ℕ) (from to : ℕ) (first then : S). WholeChain known chain from to) path old new before after answer
-      → ForSome known (λ (tree : Tree). standing ≡ standing_at tree path) → PathAnswer known path old new answer
+      → StandingComes standing (λ (file : List ℕ) (from to : ℕ) (first then : S). WholeFile known gives file from to)
+      (λ (chain : List ℕ) (from to : ℕ) (first then : S). WholeChain known gives chain from to) path old new before after answer
+      → ForSome known (λ (tree : Tree). standing ≡ standing_at tree path) → PathAnswer known gives path old new answer
   standing_whole File of stands = record {
     opens = λ tree is.
         subst (λ (s : Standing). StandingOpens s tree path old new answer) (stands tree is) (of.opens tree is, of.failures);
     device = device-counted answer old old new (λ small. omega arith) of.failures;
     from = from_wider _ (IsFromPath path) _ _ answer (λ layers from. inl from)
         (λ error is. path_error error (folder_error-file error is)) of.from;
+    given = ok_wider _ (PathWasRead gives path) answer (λ layers was. inl was) of.given;
     graph = of.graph;
     memory = of.memory;
   }
@@ -114,6 +122,7 @@ module _ {S : Type 0} (known : Option Tree) (path : List ℕ) (old new : ℕ) (b
         subst (λ (s : Standing). StandingOpens s tree path old new answer) (stands tree is) (of.opens tree is, of.failures);
     device = device-counted answer old old new (λ small. omega arith) of.failures;
     from = from_wider _ (IsFromPath path) _ _ answer (λ layers from. inr (inl from)) path_error of.from;
+    given = ok_wider _ (PathWasRead gives path) answer (λ layers was. inr (inl was)) of.given;
     graph = of.graph;
     memory = of.memory;
   }
@@ -124,16 +133,18 @@ module _ {S : Type 0} (known : Option Tree) (path : List ℕ) (old new : ℕ) (b
             subst (λ (s : Standing). StandingOpens s tree path old new answer) (stands tree is) (info.opens tree is);
         device = info.device;
         from = from_wider _ (IsFromPath path) _ _ answer (λ layers from. inr (inr from)) path_error info.from;
+        given = ok_wider _ (PathWasRead gives path) answer (λ layers was. inr (inr was)) info.given;
         graph = info.graph;
         memory = info.memory;
       }
   standing_whole Nothing of stands =
-      subst (PathAnswer known path old new) (sym of.0)
+      subst (PathAnswer known gives path old new) (sym of.0)
       (record {
         opens = λ tree is.
             subst (λ (s : Standing). StandingOpens s tree path old new (refused NothingFound)) (stands tree is) of.1;
         device = λ clash small. let none : refused NothingFound ≡ refused Device = clash in cc;
         from = tt;
+        given = tt;
         graph = tt;
         memory = tt;
       })
@@ -145,16 +156,17 @@ module _ {S : Type 0} (known : Option Tree) (path : List ℕ) (old new : ℕ) (b
   no_memory InfoDir tree same = (λ met. tt, λ met. tt)
   no_memory Nothing tree same = same
 
-  pub path_whole : PathComes known (λ (file : List ℕ) (from to : ℕ) (first then : S). WholeFile known file from to)
-      (λ (chain : List ℕ) (from to : ℕ) (first then : S). WholeChain known chain from to) path old new before after answer
-      → PathAnswer known path old new answer
+  pub path_whole : PathComes known (λ (file : List ℕ) (from to : ℕ) (first then : S). WholeFile known gives file from to)
+      (λ (chain : List ℕ) (from to : ℕ) (first then : S). WholeChain known gives chain from to) path old new before after answer
+      → PathAnswer known gives path old new answer
   path_whole (inl of) = standing_whole of.0 of.2 of.1
   path_whole (inr of) =
-      subst (PathAnswer known path old new) (sym of.0)
+      subst (PathAnswer known gives path old new) (sym of.0)
       (record {
         opens = λ tree is. no_memory (standing_at tree path) tree of.1;
         device = λ clash small. let none : refused OutOfMemory ≡ refused Device = clash in cc;
         from = tt;
+        given = tt;
         graph = tt;
         memory = tt;
       })

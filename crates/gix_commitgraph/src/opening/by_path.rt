@@ -4,6 +4,8 @@ ghost use Rattle.std.specs.Prelude.{IfOk, IfErr, MatchResult};
 ghost use Rattle.gix_commitgraph.specs.Graph.{IsGraph};
 ghost use Rattle.gix_commitgraph.specs.OpenAlways.{IsFromFile, IsFromChain, IsFromInfo, IsFromPath};
 ghost use Rattle.gix_commitgraph.specs.OpenAlways.{IsFileError, IsFolderError, IsPathError};
+ghost use Rattle.gix_commitgraph.specs.WasRead.{ChainWasRead, FileWasRead, InfoWasRead, PathWasRead};
+ghost use Rattle.graph_folder.specs.Reads.{AreAllOfFile};
 ghost use Rattle.graph_layer.specs.OpenRefusals.{OutOfMemoryStandsAlone};
 
 use crate::graph::Graph;
@@ -17,6 +19,8 @@ impl Graph {
     /// over the file system, with its errors.
     pub fn at<R: Files>(rt: &R, alloc: Global, path: &str) -> Result<Graph, OpenError>
         ensures from { MatchResult result (IsFromPath path.now) IsPathError }
+        ensures given { IfOk result (PathWasRead
+            (λ _ bytes. AreAllOfFile R.File.remaining bytes) path.now) }
         ensures graph { IfOk result IsGraph }
         ensures memory { IfErr result OutOfMemoryStandsAlone }
     {
@@ -27,6 +31,8 @@ impl Graph {
     /// system, with its errors.
     pub fn from_file<R: Files>(rt: &R, alloc: Global, path: &str) -> Result<Graph, OpenError>
         ensures from { MatchResult result (IsFromFile path.now) IsFileError }
+        ensures given { IfOk result (FileWasRead
+            (λ _ bytes. AreAllOfFile R.File.remaining bytes) path.now) }
         ensures graph { IfOk result IsGraph }
         ensures memory { IfErr result OutOfMemoryStandsAlone }
     {
@@ -37,6 +43,8 @@ impl Graph {
     /// [`open_info_dir_in`] does over the file system, with its errors.
     pub fn from_info_dir<R: Files>(rt: &R, alloc: Global, path: &str) -> Result<Graph, OpenError>
         ensures from { MatchResult result (IsFromInfo path.now) IsFolderError }
+        ensures given { IfOk result (InfoWasRead
+            (λ _ bytes. AreAllOfFile R.File.remaining bytes) path.now) }
         ensures graph { IfOk result IsGraph }
         ensures memory { IfErr result OutOfMemoryStandsAlone }
     {
@@ -51,6 +59,8 @@ impl Graph {
         path: &str,
     ) -> Result<Graph, OpenError>
         ensures from { MatchResult result (IsFromChain path.now) IsFolderError }
+        ensures given { IfOk result (ChainWasRead
+            (λ _ bytes. AreAllOfFile R.File.remaining bytes) path.now) }
         ensures graph { IfOk result IsGraph }
         ensures memory { IfErr result OutOfMemoryStandsAlone }
     {

@@ -26,15 +26,15 @@ pub trait Opener {
     /// The opener may be asked.
     ghost is_ready: { Self → Type 0 };
 
-    /// This may come of the file at a path, in a folder with this tree, where that is known, while
-    /// the count of failed reads goes from the first number to the second, and the opener from the
-    /// first value to the second.
-    ghost of_file: { Known → Option Tree → List ℕ → ℕ → ℕ → Self → Self
-        → Result Self.Opened error → Type 0 };
+    /// This may come of the file at a path, in a folder with this tree, where that is known, of
+    /// whose reads this may be given, while the count of failed reads goes from the first number to
+    /// the second, and the opener from the first value to the second.
+    ghost of_file: { Known → Option Tree → (List ℕ → List ℕ → Type 0) → List ℕ → ℕ → ℕ
+        → Self → Self → Result Self.Opened error → Type 0 };
 
     /// The same of the chain folder at a path.
-    ghost of_chain: { Known → Option Tree → List ℕ → ℕ → ℕ → Self → Self
-        → Result Self.Opened error → Type 0 };
+    ghost of_chain: { Known → Option Tree → (List ℕ → List ℕ → Type 0) → List ℕ → ℕ → ℕ
+        → Self → Self → Result Self.Opened error → Type 0 };
 
     /// Opens the file at the path.
     fn file<T: Folder>(
@@ -44,7 +44,7 @@ pub trait Opener {
         path: &str,
     ) -> Result<Self::Opened, OpenError>
         requires { is_ready self.old }
-        ensures comes { of_file (known self.old) (T.tree folder.old) path.now
+        ensures comes { of_file (known self.old) (T.tree folder.old) T.gives path.now
             (T.failure_count folder.old) (T.failure_count folder.new) self.old self.new result }
         ensures known { known self.new ≡ known self.old }
         ensures ready { is_ready self.new }
@@ -58,7 +58,7 @@ pub trait Opener {
         path: &str,
     ) -> Result<Self::Opened, OpenError>
         requires { is_ready self.old }
-        ensures comes { of_chain (known self.old) (T.tree folder.old) path.now
+        ensures comes { of_chain (known self.old) (T.tree folder.old) T.gives path.now
             (T.failure_count folder.old) (T.failure_count folder.new) self.old self.new result }
         ensures known { known self.new ≡ known self.old }
         ensures ready { is_ready self.new }
@@ -80,8 +80,8 @@ pub fn open_by<T: Folder, O: Opener>(
 ) -> Result<O::Opened, OpenError>
     requires { O.is_ready opener.old }
     ensures comes { PathComes (T.tree folder.old)
-        (O.of_file (O.known opener.old) (T.tree folder.old))
-        (O.of_chain (O.known opener.old) (T.tree folder.old)) path.now
+        (O.of_file (O.known opener.old) (T.tree folder.old) T.gives)
+        (O.of_chain (O.known opener.old) (T.tree folder.old) T.gives) path.now
         (T.failure_count folder.old) (T.failure_count folder.new) opener.old opener.new result }
     ensures known { O.known opener.new ≡ O.known opener.old }
     ensures ready { O.is_ready opener.new }
@@ -110,8 +110,8 @@ pub fn open_info_by<T: Folder, O: Opener>(
 ) -> Result<O::Opened, OpenError>
     requires { O.is_ready opener.old }
     ensures comes { InfoComes
-        (O.of_file (O.known opener.old) (T.tree folder.old))
-        (O.of_chain (O.known opener.old) (T.tree folder.old)) path.now
+        (O.of_file (O.known opener.old) (T.tree folder.old) T.gives)
+        (O.of_chain (O.known opener.old) (T.tree folder.old) T.gives) path.now
         (T.failure_count folder.old) (T.failure_count folder.new) opener.old opener.new result }
     ensures known { O.known opener.new ≡ O.known opener.old }
     ensures ready { O.is_ready opener.new }

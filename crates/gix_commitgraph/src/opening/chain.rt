@@ -1,16 +1,18 @@
 //! The opener of a chain folder.
 
 ghost use Rattle.std.specs.Prelude.{◌≡◌, Contains, IfOk, IfErr, IfSome, MatchResult, Ok, is_some};
-ghost use Rattle.std.specs.Prelude.{length, ℕ};
+ghost use Rattle.std.specs.Prelude.{All, length, map, ℕ};
 ghost use Rattle.std.specs.Option.{ForSome};
 ghost use Rattle.std.specs.Str.{is_utf8};
 ghost use Rattle.graph_folder.specs.Tree.{is_file};
 ghost use Rattle.gix_commitgraph.specs.Graph.{IsGraph};
 ghost use Rattle.gix_commitgraph.specs.OpenAlways.{IsFromChain, IsFolderError, IsLineError};
 ghost use Rattle.gix_commitgraph.specs.OpenAlways.{IsErrorOfLines};
-ghost use Rattle.graph_layer.specs.LayerOpening.{IsReadError, bytes_at, layer_at};
+ghost use Rattle.graph_layer.specs.LayerOpening.{IsReadError, LayerWasRead, bytes_at};
+ghost use Rattle.graph_layer.specs.LayerOpening.{layer_at};
 ghost use Rattle.graph_layer.specs.OpenAnswer.{IsAsExpected, failures_after_opening, result_map};
 ghost use Rattle.gix_commitgraph.specs.Opening.{layer_of_line, layers_from, chain_opened};
+ghost use Rattle.gix_commitgraph.specs.WasRead.{ChainWasRead};
 ghost use Rattle.graph_layer.specs.OpenRefusals.{OutOfMemoryStandsAlone};
 ghost use Rattle.gix_commitgraph.specs.Paths.{chain_path, layer_path};
 
@@ -54,6 +56,7 @@ pub fn open_chain_dir_in<T: Folder>(
     ensures failures { T.failure_count folder.new
         ≡ failures_after_opening result (T.failure_count folder.old) }
     ensures from { MatchResult result (IsFromChain path.now) IsFolderError }
+    ensures given { IfOk result (ChainWasRead T.gives path.now) }
     ensures graph { IfOk result IsGraph }
     ensures memory { IfErr result OutOfMemoryStandsAlone }
 {
@@ -87,6 +90,7 @@ pub fn read_chain<T: Folder>(
     ensures opens { ForSome (T.tree folder.old)
         (λ tree. IsAsExpected (result_map (λ text. text.items) result)
         (bytes_at tree (chain_path path.now))) }
+    ensures given { IfOk result (λ text. T.gives (chain_path path.now) text.items) }
     ensures tree { T.tree folder.new ≡ T.tree folder.old }
     ensures failures { T.failure_count folder.new
         ≡ failures_after_opening result (T.failure_count folder.old) }
@@ -120,6 +124,9 @@ pub fn open_lines<T: Folder>(
         ≡ failures_after_opening result (T.failure_count folder.old) }
     ensures from { MatchResult result (λ files. IsFromChain path.now files.items)
         (IsErrorOfLines (length below.now) (length lines.entry)) }
+    ensures named { IfOk result (λ files. map (λ layer. layer.path) files.items
+        ≡ map (layer_path path.now) lines.entry) }
+    ensures given { IfOk result (λ files. All (LayerWasRead T.gives) files.items) }
     ensures memory { IfErr result OutOfMemoryStandsAlone }
 {
     let mut files = Vec::new(alloc);
@@ -155,12 +162,14 @@ fn open_line<T: Folder>(
 ) -> Result<File, OpenError>
     requires known { ForSome (T.tree folder.old) (λ tree. IfSome known (λ file.
         (i : ℕ) → Ok file.now ≡ layer_at tree i file.now.path)) }
+    requires given { IfSome known (λ file. LayerWasRead T.gives file.now) }
     ensures opens { ForSome (T.tree folder.old) (λ tree.
         IsAsExpected result (layer_of_line tree path.now layer line.now)) }
     ensures tree { T.tree folder.new ≡ T.tree folder.old }
     ensures failures { T.failure_count folder.new
         ≡ failures_after_opening result (T.failure_count folder.old) }
     ensures path { IfOk result (λ file. file.path ≡ layer_path path.now line.now) }
+    ensures given { IfOk result (LayerWasRead T.gives) }
     ensures errors { IfErr result (IsLineError layer) }
     ensures memory { IfErr result OutOfMemoryStandsAlone }
 {

@@ -6,6 +6,7 @@ ghost use Rattle.gix_commitgraph.specs.Graph.{IsGraph};
 ghost use Rattle.gix_commitgraph.specs.OpenAlways.{IsFromFile, IsFileError};
 ghost use Rattle.graph_layer.specs.OpenAnswer.{IsAsExpected, failures_after_opening};
 ghost use Rattle.gix_commitgraph.specs.Opening.{file_opened};
+ghost use Rattle.gix_commitgraph.specs.WasRead.{FileWasRead};
 ghost use Rattle.graph_layer.specs.OpenRefusals.{OutOfMemoryStandsAlone};
 
 use crate::graph::Graph;
@@ -38,6 +39,7 @@ pub fn open_file_in<T: Folder>(
     ensures failures { T.failure_count folder.new
         ≡ failures_after_opening result (T.failure_count folder.old) }
     ensures from { MatchResult result (IsFromFile path.now) IsFileError }
+    ensures given { IfOk result (FileWasRead T.gives path.now) }
     ensures graph { IfOk result IsGraph }
     ensures memory { IfErr result OutOfMemoryStandsAlone }
 {

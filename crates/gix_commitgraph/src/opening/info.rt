@@ -6,6 +6,7 @@ ghost use Rattle.gix_commitgraph.specs.Graph.{IsGraph};
 ghost use Rattle.gix_commitgraph.specs.OpenAlways.{IsFromInfo, IsFolderError};
 ghost use Rattle.graph_layer.specs.OpenAnswer.{is_settled};
 ghost use Rattle.gix_commitgraph.specs.Opening.{InfoOpens, MetFailureIfDevice};
+ghost use Rattle.gix_commitgraph.specs.WasRead.{InfoWasRead};
 ghost use Rattle.graph_layer.specs.OpenRefusals.{OutOfMemoryStandsAlone};
 
 use crate::graph::Graph;
@@ -34,6 +35,7 @@ pub fn open_info_dir_in<T: Folder>(
         (T.failure_count folder.new) }
     ensures tree { T.tree folder.new ≡ T.tree folder.old }
     ensures from { MatchResult result (IsFromInfo path.now) IsFolderError }
+    ensures given { IfOk result (InfoWasRead T.gives path.now) }
     ensures graph { IfOk result IsGraph }
     ensures memory { IfErr result OutOfMemoryStandsAlone }
 {

@@ -153,6 +153,11 @@ impl<'r, R: Files> Disk<'r, R> {
 impl<'r, R: Files> Folder for Disk<'r, R> {
     ghost tree = { λ _. None };
 
+    ghost gives = { λ _ bytes. AreAllOfFile R.File.remaining bytes };
+
+    ghost gives_part = { λ _ start part. AreOfFileFrom R.File.stream_position R.File.stream_bytes
+        R.File.remaining start part.bytes.items };
+
     ghost failure_count = { λ disk. disk.failures };
 
     /// How many reads the device has failed so far.

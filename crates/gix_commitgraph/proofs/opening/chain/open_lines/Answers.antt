@@ -1,9 +1,9 @@
-use Rattle.std.proofs.Common.{rules, ◌≡◌, ◌+◌, ◌<◌, ◌∷◌, ◌∙◌, arith, length, vec_len}
+use Rattle.std.proofs.Common.{rules, ◌≡◌, ◌+◌, ◌<◌, ◌∷◌, ◌∙◌, arith, sym, length, vec_len}
 use Rattle.std.proofs.lemmas.Grind.{common_steps}
 use Rattle.std.proofs.lemmas.Result.{err_from_is_err_and}
 use Rattle.gix_commitgraph.proofs.opening.ChainOpeningLemmas.{layers_with-next, read-from_line, read-pushed}
 use Rattle.gix_commitgraph.proofs.opening.OpenErrorLemmas.{line-within, lines-counted}
-use Rattle.gix_commitgraph.proofs.opening.OpenedPathLemmas.{from-pushed}
+use Rattle.gix_commitgraph.proofs.opening.OpenedPathLemmas.{from-pushed, given-pushed, named-all, paths_with-next}
 use Rattle.gix_commitgraph.proofs.opening.chain.open_lines.Goals as goal
 
 pub loop-line-preserved : goal.loop-line-preserved
@@ -15,6 +15,11 @@ loop-line-preserved g c = record {
   from =
       let named = c.in_ok-file.ensures.path in
       from-pushed c.args.path.now _ _ _ c.loop-line.invariant.from (c.in-Some.line.now, named) c.in_ok-push.ensures.items;
+  given = given-pushed _ _ _ _ c.loop-line.invariant.given c.in_ok-file.ensures.given c.in_ok-push.ensures.items;
+  named =
+      let names : c.loop-line.line-iterator ≡ c.in-Some.line.now ∷ c.next.new.self = search rules in
+      sym (paths_with-next c.args.path.now _ _ _ _ _ _ names c.in_ok-file.ensures.path c.in_ok-push.ensures.items)
+      ∙ c.loop-line.invariant.named;
   counted =
       let names : c.loop-line.line-iterator ≡ c.in-Some.line.now ∷ c.next.new.self = search rules in
       let pushed = c.in_ok-push.ensures.items in

@@ -12,6 +12,7 @@ pub read-tells : goal.read-tells
 read-tells g c = record {
   bytes = λ t known. absurd (grind (arith, known));
   not_opened = λ t known. absurd (grind (arith, known));
+  given = search;
   tree = search;
   failures = search;
 }
@@ -21,6 +22,7 @@ read_part-tells g c = record {
   part = λ t known. absurd (grind (arith, known));
   size = search;
   not_opened = λ t known. absurd (grind (arith, known));
+  given = search;
   tree = search;
   failures = search;
 }
@@ -29,6 +31,7 @@ pub has_bytes-tells : goal.has_bytes-tells
 has_bytes-tells g c = record {
   same = λ t known. absurd (grind (arith, known));
   not_opened = λ t known. absurd (grind (arith, known));
+  given = search;
   tree = search;
   failures = search;
 }
