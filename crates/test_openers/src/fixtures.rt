@@ -65,9 +65,9 @@ pub type Layer = (
 
 /// The checksums of the three layers that follow, the lowest first. They are those that Python's
 /// `hashlib` gives.
-const LOWEST: &str = "d4acf176695c236bbec4d0a2f3ceab09f5436e96";
+pub const LOWEST: &str = "d4acf176695c236bbec4d0a2f3ceab09f5436e96";
 
-const MIDDLE: &str = "efa7039cace7373e71879fba4d83bb0fd1b7225f";
+pub const MIDDLE: &str = "efa7039cace7373e71879fba4d83bb0fd1b7225f";
 
 const HIGHEST: &str = "74ba8302038f56a86f95fad4f6344032e1fee5e2";
 
