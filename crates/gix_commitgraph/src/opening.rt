@@ -2,7 +2,9 @@
 //!
 //! Each opener reads from a [`Folder`]: a tree of files whose reads a device may fail. A contract
 //! says what is opened where the contents of the tree are known, what holds of each answer whether
-//! they are known or not, and that no opener changes the tree. Over the file system, a
+//! they are known or not, and that no opener changes the tree. Where they are not known, others may
+//! write while an opener reads: the layers are files that were there, each as it was read, and
+//! those of a chain are named by the lines of a chain file as it was read. Over the file system, a
 //! [`Disk`](graph_folder::folder::Disk), the same openers are [`Graph::at`], [`Graph::from_file`],
 //! [`Graph::from_info_dir`] and [`Graph::from_commit_graphs_dir`].
 

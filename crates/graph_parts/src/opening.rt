@@ -139,9 +139,9 @@ impl Opener for PartOpener {
 
     ghost is_ready = { λ _. ⊤ };
 
-    ghost of_file = { λ _ known path old new _ _. FilePartsCome known path old new };
+    ghost of_file = { λ _ known _ path old new _ _. FilePartsCome known path old new };
 
-    ghost of_chain = { λ _ known path old new _ _. ChainPartsCome known path old new };
+    ghost of_chain = { λ _ known _ path old new _ _. ChainPartsCome known path old new };
 
     fn file<T: Folder>(
         &mut self,
