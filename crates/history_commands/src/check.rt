@@ -219,9 +219,14 @@ fn check<T: Folder>(
     Ok((graph, dates, filters))
 }
 
-/// How many commits have a corrected date, if each layer has dates, in a graph that is right.
+/// How many commits have a corrected date, in a graph that is right: all of them, or `None` where
+/// some layer has no dates.
+///
+/// # Errors
+///
+/// Those of [`CorrectedDates::of_graph`]: the first fault of the dates, where each layer has some.
 #[tactic(auto, unfolding(crate::specs::Check::MayRefuseDates))]
-fn count_dates(alloc: Global, graph: &Graph) -> Result<Option<u32>, DatesError>
+pub fn count_dates(alloc: Global, graph: &Graph) -> Result<Option<u32>, DatesError>
     requires { Sound graph.now }
     ensures found { IfOk result (AreDatesFound graph.now) }
     ensures refused { IfErr result (MayRefuseDates graph.now) }
@@ -233,9 +238,13 @@ fn count_dates(alloc: Global, graph: &Graph) -> Result<Option<u32>, DatesError>
     }
 }
 
-/// How many commits have a filter that was computed, if some layer has filters.
+/// How many commits have a filter that was computed, or `None` where no layer has filters.
+///
+/// # Errors
+///
+/// Those of [`GraphFilters::of_graph`]: the first fault of the filters.
 #[tactic(auto, unfolding(crate::specs::Check::MayRefuseFilters))]
-fn count_filters(alloc: Global, graph: &Graph) -> Result<Option<u32>, FiltersError>
+pub fn count_filters(alloc: Global, graph: &Graph) -> Result<Option<u32>, FiltersError>
     ensures found { IfOk result (AreFiltersFound graph.now) }
     ensures refused { IfErr result (MayRefuseFilters graph.now) }
 {

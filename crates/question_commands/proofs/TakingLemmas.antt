@@ -1,6 +1,6 @@
 -- A graph that is opened anew beside one that stands.
-use Rattle.std.proofs.Common.{◌≡◌, ℕ, ◌-◌, ◌^◌, ◌<◌, ◌≤◌, List, [], ◌++◌, length, take, drop, Option, Some, None}
-use Rattle.std.proofs.Common.{Result, Ok, Err, IfOk, true, false, refl, sym, ap, subst, ◌∙◌, arith, get_or}
+use Rattle.std.proofs.Common.{◌≡◌, ℕ, ◌-◌, ◌<◌, List, ◌++◌, length, take, drop, Option, Some, None}
+use Rattle.std.proofs.Common.{Result, Ok, Err, true, refl, sym, ap, subst, ◌∙◌, arith, get_or}
 use Rattle.std.specs.Prelude.{Bool, MatchOption, IsSomeAnd, Vec, if◌then◌else◌}
 use Rattle.std.specs.Option.{ForSome, ok_or}
 use Rattle.std.specs.Str.{is_utf8}
@@ -17,29 +17,28 @@ use Rattle.graph_format.specs.declared.error.GraphError.TheVariants.{NoFiles, To
 use Rattle.graph_format.specs.declared.error.GraphError.TheVariants.{OutOfMemory as graph_OutOfMemory}
 use Rattle.graph_format.proofs.DecidedFileLemmas.{answered}
 use Rattle.graph_layer.specs.LayerOpening.{bytes_at, layer_at, layer_of_bytes}
-use Rattle.graph_layer.specs.OpenAnswer.{IsAsExpected, and_then, failures_after_opening, is_settled, result_map_err}
+use Rattle.graph_layer.specs.OpenAnswer.{and_then, is_settled, result_map_err}
 use Rattle.graph_layer.specs.OpenRefusals.{layer_refused}
 use Rattle.graph_layer.specs.declared.opening.error.OpenError.{OpenError}
-use Rattle.graph_layer.specs.declared.opening.error.OpenError.TheVariants.{NothingFound, NotOpened, Device, ChainNotText}
-use Rattle.graph_layer.specs.declared.opening.error.OpenError.TheVariants.{Layer as layer_error, Graph as graph_error}
-use Rattle.graph_layer.specs.declared.opening.error.OpenError.TheVariants.{OutOfMemory}
-use Rattle.gix_commitgraph.specs.Graph.{IsGraph, MakesGraph, total}
+use Rattle.graph_layer.specs.declared.opening.error.OpenError.TheVariants.{NotOpened, ChainNotText, OutOfMemory}
+use Rattle.gix_commitgraph.specs.ByStanding.{PathComes}
+use Rattle.gix_commitgraph.specs.Graph.{MakesGraph, total}
 use Rattle.gix_commitgraph.specs.GraphLaw.{IsRefusal}
 use Rattle.gix_commitgraph.specs.GraphRefusal.{graph_refusal, kind_at}
-use Rattle.gix_commitgraph.specs.Opening.{InfoOpens, MetFailureIfDevice, StandingOpens, chain_opened, file_opened}
-use Rattle.gix_commitgraph.specs.Opening.{graph_of_layers, graph_unless_refused, layer_of_line, standing_at}
-use Rattle.gix_commitgraph.specs.Paths.{info_chain, info_file, layer_path}
-use Rattle.gix_commitgraph.specs.declared.opening.Standing.{Standing}
-use Rattle.gix_commitgraph.specs.declared.opening.Standing.TheVariants.{InfoDir}
+use Rattle.gix_commitgraph.specs.Opening.{chain_opened, file_opened}
+use Rattle.gix_commitgraph.specs.Opening.{graph_of_layers, graph_unless_refused, layer_of_line}
+use Rattle.gix_commitgraph.specs.Paths.{layer_path}
+use Rattle.gix_commitgraph.specs.declared.verify.VerifyError.{VerifyError}
 use Rattle.gix_commitgraph.proofs.layers.GraphLemmas.{judged}
 use Rattle.gix_commitgraph.proofs.layers.LayerListLemmas.{kind_at-is}
-use Rattle.gix_commitgraph.proofs.opening.InfoOpeningLemmas.{info_opens-chain, info_opens-file}
-use Rattle.graph_commands.specs.OpenerAnswer.{MayOpen, MayOpenBy}
+use Rattle.graph_ancestors.specs.declared.checking.NoFault.{NoFault}
+use Rattle.graph_commands.specs.OpenerAnswer.{MayOpen, OpensStopping}
 use Rattle.graph_commands.specs.declared.refusal.Refusal.{Refusal}
 use Rattle.graph_commands.specs.declared.refusal.Refusal.TheVariants as refusal
+use Rattle.graph_commands.proofs.OpenerLemmas.{comes-path, settled-alike}
 use Rattle.graph_history.specs.Reload.{StandAboveShared}
 use Rattle.history_commands.specs.Check.{MayRefuseToStart}
-use Rattle.question_commands.specs.TakenAnew.{IsThisAnswer, OpensAbove, OpensChain, PutsAbove, Takes}
+use Rattle.question_commands.specs.TakenAnew.{OpensAbove, PutsAbove, Takes, TakesBy}
 
 no_layer : Layer
 no_layer = record { kind = Sha1; bases = []; fan = []; ids = []; records = []; edges = None; checksum = []; body = []; path = [] }
@@ -100,67 +99,43 @@ module _ (P Q : Result (List Layer) OpenError → Type 0)
   takes_wider before after (Ok checked) takes = ((wider (Ok after) takes.0.0, takes.0.1), takes.1)
   takes_wider before after (Err x) takes = (refuses_wider x takes.0, takes.1)
 
--- a count of failures that an opener leaves is no less than before
-failures-le : (answer : Result (List Layer) OpenError) (count : ℕ) → count < 2 ^ 64
-    → count ≤ failures_after_opening answer count
-failures-le (Ok layers) count small = omega arith
-failures-le (Err NothingFound) count small = omega arith
-failures-le (Err NotOpened) count small = omega arith
-failures-le (Err Device) count small = omega arith
-failures-le (Err (ChainNotText line)) count small = omega arith
-failures-le (Err (layer_error i error)) count small = omega arith
-failures-le (Err (graph_error error)) count small = omega arith
-failures-le (Err OutOfMemory) count small = omega arith
+-- What comes of a path comes of what may be opened there.
+module _ (S : Type 0) (layers_of : S → List Layer) where
+  abbrev taken : (Result (List Layer) OpenError → Type 0) → S → S → Result (Result ℕ (VerifyError NoFault)) OpenError → Type 0
+  taken MayOpen s t answer = TakesBy MayOpen (layers_of s) (layers_of t) answer
 
--- a failed device is told only where the count rose
-failed : (answer : Result (List Layer) OpenError) (old mid new : ℕ) → (old < 2 ^ 64 - 1 → old ≤ mid)
-    → new ≡ failures_after_opening answer mid → MetFailureIfDevice answer old new
-failed answer old mid new before after is small =
-    let rose : new ≡ failures_after_opening {A = List Layer} (Err Device) mid =
-    after ∙ ap (λ (a : Result (List Layer) OpenError). failures_after_opening a mid) is in
-    let least : old ≤ mid = before small in
-    omega (arith, rose, least, small)
+  taken-widen : (P Q : Result (List Layer) OpenError → Type 0) (s t : S) (answer : Result (Result ℕ (VerifyError NoFault)) OpenError)
+      → ((given : Result (List Layer) OpenError) → is_settled given ≡ is_settled answer → P given → Q given)
+      → taken P s t answer → taken Q s t answer
+  taken-widen P Q s t (Ok (Ok checked)) wider of = ((wider (Ok (layers_of t)) refl of.0.0, of.0.1), of.1)
+  taken-widen P Q s t (Ok (Err error)) wider of = ((of.0.0, wider (Ok of.0.0) refl of.0.1, of.0.2), of.1)
+  taken-widen P Q s t (Err error) wider of =
+      (wider (Err error) (settled-alike (Result ℕ (VerifyError NoFault)) error) of.0, of.1)
 
--- what an info folder opens is what stands at its path
-pub info_stands : (known : Option Tree) (path : List ℕ) (old new : ℕ)
-    → ForSome known (λ tree. standing_at tree path ≡ InfoDir)
-    → (answer : Result (List Layer) OpenError) → MayOpenBy known (λ tree. InfoOpens tree path old new) old new answer
-    → MayOpen known path old new answer
-info_stands known path old new stands answer opens = (
-  λ tree is.
-      subst (λ (s : Standing). StandingOpens s tree path old new answer) (sym (stands tree is)) (opens.0 tree is),
-  opens.1,
-  opens.2,
-)
+  taken-error : (P : Result (List Layer) OpenError → Type 0) (s t : S) (error : OpenError) → taken P s t (Err error)
+      → P (Err error)
+  taken-error P s t error of = of.0
 
--- where its file is refused, an info folder opens what its chain folder does
-pub chain_of_info : (known : Option Tree) (path : List ℕ) (old mid new : ℕ) (first : Result (List Layer) OpenError)
-    → is_settled first ≡ false
-    → ForSome known (λ tree. IsAsExpected first (file_opened tree (info_file path)))
-    → mid ≡ failures_after_opening first old
-    → (answer : Result (List Layer) OpenError) → OpensChain known (info_chain path) mid new answer
-    → MayOpenBy known (λ tree. InfoOpens tree path old new) old new answer
-chain_of_info known path old mid new first settled was counted answer opens = (
-  λ tree is.
-      info_opens-chain tree path answer (opens.0.0 tree is) old mid new first settled (was tree is) counted opens.1,
-  opens.0.1,
-  failed answer old mid new (λ small. omega (arith, failures-le first old (omega arith), counted)) opens.1,
-)
+  taken-first : (P : Result (List Layer) OpenError → Type 0) (s : S) (error : OpenError) → P (Err error)
+      → taken P s s (Err error)
+  taken-first P s error may = (may, refl)
 
--- what is opened by the file of an info folder
-pub file_of_info : (known : Option Tree) (path : List ℕ) (old new : ℕ) (first : Result (List Layer) OpenError)
-    → is_settled first ≡ true → ForSome known (λ tree. IsAsExpected first (file_opened tree (info_file path)))
-    → IfOk first IsGraph → new ≡ failures_after_opening first old
-    → (answer : Result (List Layer) OpenError) → IsThisAnswer first answer
-    → MayOpenBy known (λ tree. InfoOpens tree path old new) old new answer
-file_of_info known path old new first settled was graph counted answer is =
-    let opens : MayOpenBy known (λ tree. InfoOpens tree path old new) old new first = (
-      λ tree stands.
-          info_opens-file tree path old new first settled (was tree stands) counted,
-      graph,
-      failed first old old new (λ small. omega arith) counted,
-    ) in
-    subst (λ (a : Result (List Layer) OpenError). MayOpenBy known (λ tree. InfoOpens tree path old new) old new a) (sym is) opens
+  -- where none was opened, the graph of before stands
+  taken-next : (P Q : Result (List Layer) OpenError → Type 0) (s t u : S) (error : OpenError)
+      (answer : Result (Result ℕ (VerifyError NoFault)) OpenError) → taken P s t (Err error) → taken Q t u answer
+      → taken Q s u answer
+  taken-next P Q s t u error answer tried of =
+      subst (λ (layers : List Layer). TakesBy Q layers (layers_of u) answer) tried.1 of
+
+  pub taken-path : (known : Option Tree) (path : List ℕ) (old new : ℕ) (before after : S)
+      (answer : Result (Result ℕ (VerifyError NoFault)) OpenError)
+      → PathComes known
+      (λ (file : List ℕ) (from to : ℕ) (s t : S). taken (OpensStopping known (λ tree. file_opened tree file) from to) s t)
+      (λ (chain : List ℕ) (from to : ℕ) (s t : S). taken (OpensStopping known (λ tree. chain_opened tree chain) from to) s t)
+      path old new before after answer
+      → taken (MayOpen known path old new) before after answer
+  taken-path known path old new before after answer of =
+      comes-path taken taken-widen taken-error taken-first taken-next known path old new before after answer of
 
 -- a layer that was opened is what a line names, if that names its path and the file there has its bytes
 pub same_layer : (tree : Tree) (folder line : List ℕ) (i : ℕ) (layer : Layer) → IsOpened layer → is_utf8 line ≡ true
@@ -180,31 +155,28 @@ same_layer tree folder line i layer opened text named same =
 -- what came of layers that are put on top is what comes of opening the chain that names them above those of before
 pub takes_above : (known : Option Tree) (path : List ℕ) (old new : ℕ) (before above after : List Layer) → new ≡ old
     → ForSome known (λ tree. chain_opened tree path ≡ graph_of_layers (before ++ above))
-    → (answer : Result ℕ Refusal) → PutsAbove before above after answer
-    → Takes (OpensChain known path old new) before after answer
-takes_above known path old new before above after same opens (Ok checked) puts =
+    → (answer : Result (Result ℕ (VerifyError NoFault)) OpenError) → PutsAbove before above after answer
+    → TakesBy (OpensStopping known (λ tree. chain_opened tree path) old new) before after answer
+takes_above known path old new before above after same opens (Ok (Ok checked)) puts =
     let layers : ForSome known (λ tree. Ok after ≡ chain_opened tree path) = λ tree is.
     subst (λ (ls : List Layer). Ok ls ≡ chain_opened tree path) (sym puts.0)
     (opens_as (chain_opened tree path) (before ++ above) (opens tree is) (subst MakesGraph puts.0 puts.2.makes)) in
     ((((layers, puts.2), same), puts.3), stand_above before above after checked puts.0 puts.1)
-takes_above known path old new before above after same opens (Err (refusal.Verify e)) puts =
+takes_above known path old new before above after same opens (Ok (Err e)) puts =
     let layers : ForSome known (λ tree. Ok (before ++ above) ≡ chain_opened tree path) = λ tree is.
     opens_as (chain_opened tree path) (before ++ above) (opens tree is) puts.1.makes in
     ((before ++ above, ((layers, puts.1), same), puts.2), puts.0)
-takes_above known path old new before above after same opens (Err (refusal.Open e)) puts =
-    let memory : OpensChain known path old new (Err OutOfMemory) = (((λ tree is. tt), tt), same) in
-    (subst (λ (x : OpenError). OpensChain known path old new (Err x)) (sym puts.1) memory, puts.0)
-takes_above known path old new before above after same opens (Err (refusal.Id e)) puts = absurd puts
-takes_above known path old new before above after same opens (Err (refusal.Read e)) puts = absurd puts
-takes_above known path old new before above after same opens (Err (refusal.File e)) puts = absurd puts
-takes_above known path old new before above after same opens (Err refusal.Walk) puts = absurd puts
+takes_above known path old new before above after same opens (Err e) puts =
+    let memory : OpensStopping known (λ tree. chain_opened tree path) old new (Err OutOfMemory) = (((λ tree is. tt), tt), same) in
+    (subst (λ (x : OpenError). OpensStopping known (λ tree. chain_opened tree path) old new (Err x)) (sym puts.1) memory, puts.0)
 
 -- the same of layers that are there, if there are some
 pub takes_put : {A : Type 0} (known : Option Tree) (path : List ℕ) (old new : ℕ) (before after : List Layer)
     (above : Option (Vec Layer A)) → new ≡ old
     → ForSome known (λ tree. OpensAbove (chain_opened tree path) before (Ok above))
-    → (answer : Result ℕ Refusal) → IsSomeAnd above (λ files. PutsAbove before files.items after answer)
-    → Takes (OpensChain known path old new) before after answer
+    → (answer : Result (Result ℕ (VerifyError NoFault)) OpenError)
+    → IsSomeAnd above (λ files. PutsAbove before files.items after answer)
+    → TakesBy (OpensStopping known (λ tree. chain_opened tree path) old new) before after answer
 takes_put known path old new before after None same opens answer puts = absurd puts
 takes_put known path old new before after (Some files) same opens answer puts =
     takes_above known path old new before files.items after same opens answer puts

@@ -2,14 +2,15 @@
 use Rattle.std.specs.Prelude.{◌≡◌, ℕ, List, [], ◌++◌, Option, Some, None, Result, Ok, Err, Vec, ⊤}
 use Rattle.graph_folder.specs.Tree.{Tree}
 use Rattle.graph_format.specs.Layer.{Layer}
-use Rattle.graph_layer.specs.OpenAnswer.{IsAsExpected, and_then, failures_after_opening, result_map}
+use Rattle.graph_layer.specs.OpenAnswer.{IsAsExpected, and_then, result_map}
 use Rattle.graph_layer.specs.declared.opening.error.OpenError.{OpenError}
 use Rattle.graph_layer.specs.declared.opening.error.OpenError.TheVariants.{OutOfMemory}
 use Rattle.gix_commitgraph.specs.Graph.{IsGraph, total}
-use Rattle.gix_commitgraph.specs.Opening.{chain_opened, graph_of_layers, layers_from}
+use Rattle.gix_commitgraph.specs.Opening.{graph_of_layers, layers_from}
 use Rattle.gix_commitgraph.specs.Sound.{Sound}
+use Rattle.gix_commitgraph.specs.declared.verify.VerifyError.{VerifyError}
 use Rattle.graph_ancestors.specs.RefusedGraph.{MayRefuseGraph}
-use Rattle.graph_commands.specs.OpenerAnswer.{OpensAs}
+use Rattle.graph_ancestors.specs.declared.checking.NoFault.{NoFault}
 use Rattle.graph_commands.specs.declared.refusal.Refusal.{Refusal}
 use Rattle.graph_commands.specs.declared.refusal.Refusal.TheVariants.{Open, Verify}
 use Rattle.graph_format.specs.declared.error.GraphError.TheVariants as GraphError
@@ -25,25 +26,30 @@ Takes MayOpen before after (Err refusal) = MayTake MayOpen (Err refusal) × (aft
 
 -- For private contracts: how the layers above those that stand are opened.
 
--- the answer of an opener is this one
-abbrev pub IsThisAnswer : Result (List Layer) OpenError → Result (List Layer) OpenError → Type 0
-IsThisAnswer opened answer = answer ≡ opened
+-- what an opener of graphs that are taken answers, as one refusal: a graph was opened and checked, or none was opened
+abbrev pub taken_of : Result (Result ℕ (VerifyError NoFault)) OpenError → Result ℕ Refusal
+taken_of (Ok (Ok checked)) = Ok checked
+taken_of (Ok (Err error)) = Err (Verify error)
+taken_of (Err error) = Err (Open error)
 
--- the opener of a chain folder answers so, which stops at the first failed device
-abbrev pub OpensChain : Option Tree → List ℕ → ℕ → ℕ → Result (List Layer) OpenError → Type 0
-OpensChain known path old new answer =
-    OpensAs known (λ tree. chain_opened tree path) answer × (new ≡ failures_after_opening answer old)
+-- that comes of what may be opened
+abbrev pub TakesBy : (Result (List Layer) OpenError → Type 0) → List Layer → List Layer
+    → Result (Result ℕ (VerifyError NoFault)) OpenError → Type 0
+TakesBy MayOpen before after answer = Takes MayOpen before after (taken_of answer)
+
+-- the answer of an opener is this graph
+abbrev pub IsThisGraph : List Layer → Result (List Layer) OpenError → Type 0
+IsThisGraph layers answer = answer ≡ Ok layers
 
 -- what came of layers that are put on top of those of before: they stand there, in a right graph, and their commits were checked;
 -- or those of before stand, since all make a graph that is not right, or an allocation failed before a layer that makes none
-abbrev pub PutsAbove : List Layer → List Layer → List Layer → Result ℕ Refusal → Type 0
-PutsAbove before above after (Ok checked) =
+abbrev pub PutsAbove : List Layer → List Layer → List Layer → Result (Result ℕ (VerifyError NoFault)) OpenError → Type 0
+PutsAbove before above after (Ok (Ok checked)) =
     (after ≡ before ++ above) × (checked ≡ total above) × IsGraph after × Sound after
-PutsAbove before above after (Err (Verify error)) =
+PutsAbove before above after (Ok (Err error)) =
     (after ≡ before) × IsGraph (before ++ above) × MayRefuseGraph (before ++ above) error
-PutsAbove before above after (Err (Open error)) =
+PutsAbove before above after (Err error) =
     (after ≡ before) × (error ≡ OutOfMemory) × MayRefuseSome before above GraphError.OutOfMemory
-PutsAbove before above after (Err _) = ⊥
 
 -- a device failed, or memory ran out
 abbrev pub IsDeviceOrMemory : OpenError → Type 0

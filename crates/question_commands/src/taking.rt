@@ -6,27 +6,31 @@ ghost use Rattle.std.specs.Option.{ForSome};
 ghost use Rattle.std.specs.Str.{is_utf8};
 ghost use Rattle.std.specs.Str.Lines.{lines};
 ghost use Rattle.graph_format.specs.Layer.{IsOpened};
-ghost use Rattle.graph_commands.specs.OpenerAnswer.{MayOpen, MayOpenBy};
+ghost use Rattle.graph_commands.specs.OpenerAnswer.{MayOpen, OpensStopping};
 ghost use Rattle.graph_history.specs.RightGraph.{plain_options};
 ghost use Rattle.graph_layer.specs.OpenAnswer.{failures_after_opening};
-ghost use Rattle.gix_commitgraph.specs.Opening.{InfoOpens, chain_opened, layer_of_line};
+ghost use Rattle.gix_commitgraph.specs.Opening.{chain_opened, file_opened, layer_of_line};
 ghost use Rattle.gix_commitgraph.specs.Opening.{layers_from};
 ghost use Rattle.gix_commitgraph.specs.Paths.{layer_path};
-ghost use Rattle.question_commands.specs.TakenAnew.{IsDeviceOrMemory, IsThisAnswer, OpensAbove};
-ghost use Rattle.question_commands.specs.TakenAnew.{OpensChain, PutsAbove, Takes};
-ghost use Rattle.question_commands.specs.TakenAnew.{layers_with, lines_opened};
+ghost use Rattle.question_commands.specs.TakenAnew.{IsDeviceOrMemory, IsThisGraph, OpensAbove};
+ghost use Rattle.question_commands.specs.TakenAnew.{PutsAbove, Takes, TakesBy, layers_with};
+ghost use Rattle.question_commands.specs.TakenAnew.{lines_opened};
 
-use gix_commitgraph::opening::path::{info_chain_path, info_file_path, layer_path};
+use gix_commitgraph::opening::path::layer_path;
 use gix_commitgraph::opening::{
-    OpenError, Standing, is_settled, open_chain_dir_in, open_file_in, open_in, open_lines,
-    read_chain, stands_at, text_of,
+    OpenError, Opener, open_by, open_chain_dir_in, open_file_in, open_lines, read_chain, text_of,
 };
+use gix_commitgraph::verify::VerifyError;
 use gix_commitgraph::{File, Graph, GraphError};
+use graph_ancestors::NoFault;
 use graph_commands::refusal::Refusal;
 use graph_folder::chain::Lines;
 use graph_folder::folder::{Folder, ReadError};
 use graph_history::{CheckedGraph, PushError};
 use std::alloc::{AllocError, Global};
+
+/// What the check of an opened graph says: how many commits were checked, or why it is refused.
+type Checked = Result<u32, VerifyError<NoFault>>;
 
 /// Opens the graph at the path anew, and puts it in the place of the one that stands, unless it is
 /// refused. It answers how many commits were checked.
@@ -50,44 +54,76 @@ pub fn take_anew<T: Folder>(
     ensures options { graph.new.options ≡ plain_options }
     ensures tree { T.tree folder.new ≡ T.tree folder.old }
 {
-    let Ok(standing) = stands_at(alloc, folder, path) else {
-        return Err(Refusal::Open(OpenError::OutOfMemory));
-    };
-    match standing {
-        Standing::ChainDir => take_chain(alloc, folder, path, graph),
-        Standing::InfoDir => take_info(alloc, folder, path, graph),
-        Standing::File | Standing::Nothing => {
-            let opened = open_in(alloc, folder, path);
-            take_opened(alloc, opened, graph)
-        }
+    let mut taking = Taking { graph };
+    let checked = open_by(alloc, folder, path, &mut taking)?;
+    Ok(checked?)
+}
+
+/// Puts the graphs of files and of chain folders in the place of the one that stands. A graph that
+/// its check refuses was opened, so that no other is tried.
+#[derive(Drop)]
+struct Taking<'g> {
+    graph: &'g mut CheckedGraph,
+}
+
+impl Opener for Taking<'_> {
+    ghost use Rattle.std.specs.Prelude.{◌≡◌, ℕ};
+    ghost use Rattle.gix_commitgraph.specs.Opening.{chain_opened, file_opened};
+    ghost use Rattle.graph_commands.specs.OpenerAnswer.{OpensStopping};
+    ghost use Rattle.graph_history.specs.RightGraph.{plain_options};
+    ghost use Rattle.question_commands.specs.TakenAnew.{TakesBy};
+
+    type Opened = Checked;
+
+    ghost Known = { ℕ };
+
+    ghost known = { λ taking. taking.graph.ghost_name };
+
+    ghost is_ready = { λ taking. taking.graph.now.options ≡ plain_options };
+
+    ghost of_file = { λ _ known path old new before after.
+        TakesBy (OpensStopping known (λ tree. file_opened tree path) old new)
+        before.graph.now.layers after.graph.now.layers };
+
+    ghost of_chain = { λ _ known path old new before after.
+        TakesBy (OpensStopping known (λ tree. chain_opened tree path) old new)
+        before.graph.now.layers after.graph.now.layers };
+
+    fn file<T: Folder>(
+        &mut self,
+        alloc: Global,
+        folder: &mut T,
+        path: &str,
+    ) -> Result<Checked, OpenError> {
+        take_file(alloc, folder, path, self.graph)
+    }
+
+    fn chain<T: Folder>(
+        &mut self,
+        alloc: Global,
+        folder: &mut T,
+        path: &str,
+    ) -> Result<Checked, OpenError> {
+        take_chain(alloc, folder, path, self.graph)
     }
 }
 
-/// Takes the graph of an info folder.
-fn take_info<T: Folder>(
+/// Takes the graph of a file.
+fn take_file<T: Folder>(
     alloc: Global,
     folder: &mut T,
     path: &str,
     graph: &mut CheckedGraph,
-) -> Result<u32, Refusal>
+) -> Result<Checked, OpenError>
     requires { graph.old.options ≡ plain_options }
-    ensures taken { Takes (MayOpenBy (T.tree folder.old) (λ tree. InfoOpens tree path.now
-        (T.failure_count folder.old) (T.failure_count folder.new)) (T.failure_count folder.old)
-        (T.failure_count folder.new)) graph.old.layers graph.new.layers result }
+    ensures taken { TakesBy (OpensStopping (T.tree folder.old) (λ tree.
+        file_opened tree path.now) (T.failure_count folder.old) (T.failure_count folder.new))
+        graph.old.layers graph.new.layers result }
     ensures options { graph.new.options ≡ plain_options }
     ensures tree { T.tree folder.new ≡ T.tree folder.old }
 {
-    let Ok(file) = info_file_path(alloc, path) else {
-        return Err(Refusal::Open(OpenError::OutOfMemory));
-    };
-    let opened = open_file_in(alloc, folder, file.as_str());
-    if is_settled(&opened) {
-        return take_opened(alloc, opened, graph);
-    }
-    let Ok(chain) = info_chain_path(alloc, path) else {
-        return Err(Refusal::Open(OpenError::OutOfMemory));
-    };
-    take_chain(alloc, folder, chain.as_str(), graph)
+    let opened = open_file_in(alloc, folder, path)?;
+    Ok(take_opened(alloc, opened, graph))
 }
 
 /// Takes the graph of a chain folder.
@@ -96,10 +132,11 @@ fn take_chain<T: Folder>(
     folder: &mut T,
     path: &str,
     graph: &mut CheckedGraph,
-) -> Result<u32, Refusal>
+) -> Result<Checked, OpenError>
     requires { graph.old.options ≡ plain_options }
-    ensures taken { Takes (OpensChain (T.tree folder.old) path.now (T.failure_count folder.old)
-        (T.failure_count folder.new)) graph.old.layers graph.new.layers result }
+    ensures taken { TakesBy (OpensStopping (T.tree folder.old) (λ tree.
+        chain_opened tree path.now) (T.failure_count folder.old) (T.failure_count folder.new))
+        graph.old.layers graph.new.layers result }
     ensures options { graph.new.options ≡ plain_options }
     ensures tree { T.tree folder.new ≡ T.tree folder.old }
 {
@@ -107,8 +144,8 @@ fn take_chain<T: Folder>(
     if let Some(answer) = put_above(alloc, above, graph) {
         return answer;
     }
-    let opened = open_chain_dir_in(alloc, folder, path);
-    take_opened(alloc, opened, graph)
+    let opened = open_chain_dir_in(alloc, folder, path)?;
+    Ok(take_opened(alloc, opened, graph))
 }
 
 /// Puts these layers on top of the graph, and answers what came of it; or `None`, where all layers
@@ -117,7 +154,7 @@ fn put_above(
     alloc: Global,
     above: Option<Vec<File>>,
     graph: &mut CheckedGraph,
-) -> Option<Result<u32, Refusal>>
+) -> Option<Result<Checked, OpenError>>
     requires { graph.old.options ≡ plain_options }
     ensures put { MatchOption result (graph.new.layers ≡ graph.old.layers)
         (λ answer. IsSomeAnd above (λ files.
@@ -125,26 +162,20 @@ fn put_above(
     ensures options { graph.new.options ≡ plain_options }
 {
     match graph.push_all(alloc, above?) {
-        Ok(checked) => Some(Ok(checked)),
-        Err(PushError::Check(error)) => Some(Err(Refusal::Verify(error))),
-        Err(PushError::Graph(GraphError::OutOfMemory)) => {
-            Some(Err(Refusal::Open(OpenError::OutOfMemory)))
-        }
+        Ok(checked) => Some(Ok(Ok(checked))),
+        Err(PushError::Check(error)) => Some(Ok(Err(error))),
+        Err(PushError::Graph(GraphError::OutOfMemory)) => Some(Err(OpenError::OutOfMemory)),
         Err(PushError::Graph(_)) => None,
     }
 }
 
 /// Takes a graph that was opened.
-fn take_opened(
-    alloc: Global,
-    opened: Result<Graph, OpenError>,
-    graph: &mut CheckedGraph,
-) -> Result<u32, Refusal>
+fn take_opened(alloc: Global, opened: Graph, graph: &mut CheckedGraph) -> Checked
     requires { graph.old.options ≡ plain_options }
-    ensures taken { Takes (IsThisAnswer opened) graph.old.layers graph.new.layers result }
+    ensures taken { TakesBy (IsThisGraph opened) graph.old.layers graph.new.layers (Ok result) }
     ensures options { graph.new.options ≡ plain_options }
 {
-    let taken = graph.as_checked().reload(alloc, opened?)?;
+    let taken = graph.as_checked().reload(alloc, opened)?;
     *graph = taken.graph;
     Ok(taken.checked)
 }

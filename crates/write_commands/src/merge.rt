@@ -2,10 +2,8 @@
 
 ghost use Rattle.std.specs.Prelude.{◌≡◌, ◌<◌, IfErr, IfOk, OnErr, Ok, Err};
 ghost use Rattle.gix_commitgraph.specs.Graph.{total};
-ghost use Rattle.gix_commitgraph.specs.Sound.{Sound};
-ghost use Rattle.graph_commands.specs.OpenerAnswer.{MayOpen};
+ghost use Rattle.graph_commands.specs.OpenerAnswer.{MayOpenIn};
 ghost use Rattle.graph_commands.specs.WrittenAnswer.{WritesAnswer};
-ghost use Rattle.history_commands.specs.Check.{MayRefuseToStart};
 ghost use Rattle.write_commands.specs.CarriedFilters.{AreCarried};
 ghost use Rattle.write_commands.specs.GraphCommits.{AreCommitsOf};
 ghost use Rattle.write_commands.specs.MergedCommits.{AreFoundCommits, MayMerge};
@@ -14,13 +12,12 @@ ghost use Rattle.write_commands.specs.LayerAnswer.{written_text, written_status}
 use crate::filters::filters_of;
 use crate::graph_commits::commits_of;
 use crate::refusal::LayerRefusal;
-use gix_commitgraph::opening::open_in;
 use graph_commands::line::{WriteFailed, write_line};
-use graph_commands::refusal::Refusal;
 use graph_commands::status::Status;
 use graph_folder::folder::Folder;
-use graph_history::{Checked, CheckedGraph};
+use graph_history::Checked;
 use graph_writer::{NewCommit, NewFilters, WriteError, write_layer_with_filters};
+use history_commands::opening::open_checked;
 use std::alloc::{AllocError, Global};
 use std::io::Write;
 
@@ -39,9 +36,7 @@ pub fn run_merge<T: Folder, W: Write>(
     writer: &mut W,
 ) -> Result<u8, WriteFailed>
     ensures written { IfOk result (WritesAnswer written_text written_status
-        (MayMerge
-        (MayOpen (T.tree folder.old) path.now (T.failure_count folder.old)
-        (T.failure_count folder.new)))
+        (MayMerge (MayOpenIn T.Folder folder.old folder.new path.now))
         (W.contents writer.old) (W.contents writer.new)) }
     ensures tree { T.tree folder.new ≡ T.tree folder.old }
 {
@@ -60,11 +55,9 @@ pub fn run_merge<T: Folder, W: Write>(
 /// The file of a layer with the commits of the graph at the path.
 fn merged<T: Folder>(alloc: Global, folder: &mut T, path: &str) -> Result<Vec<u8>, LayerRefusal>
     ensures written { IfOk result (λ bytes. MayMerge
-        (MayOpen (T.tree folder.old) path.now (T.failure_count folder.old)
-        (T.failure_count folder.new)) (Ok bytes.items)) }
+        (MayOpenIn T.Folder folder.old folder.new path.now) (Ok bytes.items)) }
     ensures refused { IfErr result (λ refusal. MayMerge
-        (MayOpen (T.tree folder.old) path.now (T.failure_count folder.old)
-        (T.failure_count folder.new)) (Err refusal)) }
+        (MayOpenIn T.Folder folder.old folder.new path.now) (Err refusal)) }
     ensures tree { T.tree folder.new ≡ T.tree folder.old }
 {
     let found = find_commits(alloc, folder, path)?;
@@ -89,11 +82,9 @@ fn find_commits<T: Folder>(
     path: &str,
 ) -> Result<Gathered, LayerRefusal>
     ensures found { IfOk result (λ found. AreFoundCommits
-        (MayOpen (T.tree folder.old) path.now (T.failure_count folder.old)
-        (T.failure_count folder.new)) found.commits.items found.filters) }
+        (MayOpenIn T.Folder folder.old folder.new path.now) found.commits.items found.filters) }
     ensures refused { IfErr result (λ refusal. MayMerge
-        (MayOpen (T.tree folder.old) path.now (T.failure_count folder.old)
-        (T.failure_count folder.new)) (Err refusal)) }
+        (MayOpenIn T.Folder folder.old folder.new path.now) (Err refusal)) }
     ensures tree { T.tree folder.new ≡ T.tree folder.old }
 {
     let graph = open_checked(alloc, folder, path)?;
@@ -114,23 +105,4 @@ fn gather(alloc: Global, graph: &Checked<'_>) -> Result<Gathered, AllocError>
         commits: commits_of(alloc, graph)?,
         filters: filters_of(alloc, graph)?,
     })
-}
-
-/// Opens the graph at the path, and checks it.
-fn open_checked<T: Folder>(
-    alloc: Global,
-    folder: &mut T,
-    path: &str,
-) -> Result<CheckedGraph, Refusal>
-    ensures opened { IfOk result (λ graph.
-        MayOpen (T.tree folder.old) path.now (T.failure_count folder.old)
-        (T.failure_count folder.new) (Ok graph.layers)) }
-    ensures right { IfOk result (λ graph. Sound graph.layers) }
-    ensures refused { IfErr result (MayRefuseToStart
-        (MayOpen (T.tree folder.old) path.now (T.failure_count folder.old)
-        (T.failure_count folder.new))) }
-    ensures tree { T.tree folder.new ≡ T.tree folder.old }
-{
-    let graph = open_in(alloc, folder, path)?;
-    Ok(CheckedGraph::new(alloc, graph)?)
 }

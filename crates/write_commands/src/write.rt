@@ -1,7 +1,7 @@
 //! The command `write`.
 
 ghost use Rattle.std.specs.Prelude.{◌≡◌, IfErr, IfOk, Ok, Err, option_map};
-ghost use Rattle.graph_commands.specs.OpenerAnswer.{MayOpen};
+ghost use Rattle.graph_commands.specs.OpenerAnswer.{MayOpenIn};
 ghost use Rattle.graph_commands.specs.WrittenAnswer.{WritesAnswer};
 ghost use Rattle.graph_writer.specs.NewCommits.{layers_of_below};
 ghost use Rattle.write_commands.specs.WrittenCommits.{MayComeOf, MayWriteLayer, kind_below};
@@ -36,8 +36,7 @@ pub fn run_write<R: Read, T: Folder, W: Write>(
 ) -> Result<u8, WriteFailed>
     ensures written { IfOk result (WritesAnswer written_text written_status
         (MayWriteLayer (option_map (λ p. p.now) path.entry) (folder.new ≡ folder.old)
-        (λ at. MayOpen (T.tree folder.old) at (T.failure_count folder.old)
-        (T.failure_count folder.new))
+        (MayOpenIn T.Folder folder.old folder.new)
         (R.remaining reader.old) (R.remaining reader.new))
         (W.contents writer.old) (W.contents writer.new)) }
     ensures tree { T.tree folder.new ≡ T.tree folder.old }
@@ -64,13 +63,11 @@ fn layer_on<R: Read, T: Folder>(
 ) -> Result<Vec<u8>, LayerRefusal>
     ensures written { IfOk result (λ bytes.
         MayWriteLayer (option_map (λ p. p.now) path.entry) (folder.new ≡ folder.old)
-        (λ at. MayOpen (T.tree folder.old) at (T.failure_count folder.old)
-        (T.failure_count folder.new))
+        (MayOpenIn T.Folder folder.old folder.new)
         (R.remaining reader.old) (R.remaining reader.new) (Ok bytes.items)) }
     ensures refused { IfErr result (λ refusal.
         MayWriteLayer (option_map (λ p. p.now) path.entry) (folder.new ≡ folder.old)
-        (λ at. MayOpen (T.tree folder.old) at (T.failure_count folder.old)
-        (T.failure_count folder.new))
+        (MayOpenIn T.Folder folder.old folder.new)
         (R.remaining reader.old) (R.remaining reader.new) (Err refusal)) }
     ensures tree { T.tree folder.new ≡ T.tree folder.old }
 {
