@@ -25,14 +25,13 @@ use Rattle.graph_commands.specs.Text.{◌⧺◌, newline}
 use Rattle.graph_commands.specs.declared.refusal.Refusal.{Refusal}
 use Rattle.graph_commands.specs.declared.refusal.Refusal.TheVariants.{Id, Read, File, Open, Verify, Walk}
 use Rattle.history_commands.specs.declared.check.CheckRefusal.{CheckRefusal}
+use Rattle.history_commands.specs.declared.check.ChunksFound.{ChunksFound}
 use Rattle.history_commands.specs.declared.check.CheckRefusal.TheVariants.{Graph, Dates, Filters}
 
--- what is found of a graph: its statistics; how many commits have a corrected date, if each layer has dates; and how many have a
--- filter that was computed, if some layer has filters
+-- what is found of a graph: its statistics, and what its further chunks have
 pub record Findings : Type 0 where
   pub outcome : Outcome
-  pub dates : Option ℕ
-  pub filters : Option ℕ
+  pub chunks : ChunksFound
 
 -- some layer has no dates; or all of the commits have one, no condition refuses the dates, they are right, and each follows from
 -- its commit's parents
@@ -48,13 +47,17 @@ abbrev pub AreFiltersFound : List Layer → Option ℕ → Type 0
 AreFiltersFound layers computed =
     (graph_filters_refusal layers ≡ None) × (computed ≡ option_map (λ settings. computed_in layers) (settings_of layers))
 
--- The graph is right, with its dates and its filters, and this is found of it. The numbers of parents ascend.
+-- Nothing refuses the further chunks, and this is found of them.
+pub record AreChunksFound (layers : List Layer) (found : ChunksFound) : Type 0 where
+  pub dates : AreDatesFound layers found.dates
+  pub filters : AreFiltersFound layers found.filters
+
+-- The graph is right, with its further chunks, and this is found of it. The numbers of parents ascend.
 pub record AreFindings (layers : List Layer) (findings : Findings) : Type 0 where
   pub right : Sound layers
   pub statistics : Stats layers findings.outcome
   pub ascending : IsOrdered nat_cmp findings.outcome.parent_counts
-  pub dates : AreDatesFound layers findings.dates
-  pub filters : AreFiltersFound layers findings.filters
+  pub chunks : AreChunksFound layers findings.chunks
 
 -- dates may be refused so, where each layer has some; that memory ran out is said only where all can be read
 unfoldable pub MayRefuseDates : List Layer → DatesError → Type 0
@@ -65,6 +68,12 @@ MayRefuseDates layers error =
 unfoldable pub MayRefuseFilters : List Layer → FiltersError → Type 0
 MayRefuseFilters layers error = MayRefuseGraphFilters layers error
 
+-- why the further chunks of a right graph may be refused: its dates are; and else its filters are
+abbrev pub MayRefuseChunks : List Layer → CheckRefusal → Type 0
+MayRefuseChunks layers (Graph refusal) = ⊥
+MayRefuseChunks layers (Dates error) = MayRefuseDates layers error
+MayRefuseChunks layers (Filters error) = (dates : Option ℕ) × AreDatesFound layers dates × MayRefuseFilters layers error
+
 -- why no right graph is found, as `verify` may say: the path opens none, or the one that it opens fails its check
 abbrev pub MayRefuseToStart : (Result (List Layer) OpenError → Type 0) → Refusal → Type 0
 MayRefuseToStart MayOpen (Open error) = MayOpen (Err error)
@@ -74,15 +83,11 @@ MayRefuseToStart MayOpen (Read error) = ⊥
 MayRefuseToStart MayOpen (File error) = ⊥
 MayRefuseToStart MayOpen Walk = ⊥
 
--- why `check` may refuse what a path opens, given what the opener may answer: why there is no right graph; else why its dates are
--- refused; and else why its filters are
+-- why `check` may refuse what a path opens, given what the opener may answer: why there is no right graph; and else why its
+-- further chunks are refused
 abbrev pub MayRefuseToCheck : (Result (List Layer) OpenError → Type 0) → CheckRefusal → Type 0
 MayRefuseToCheck MayOpen (Graph refusal) = MayRefuseToStart MayOpen refusal
-MayRefuseToCheck MayOpen (Dates error) =
-    (layers : List Layer) × MayOpen (Ok layers) × Sound layers × MayRefuseDates layers error
-MayRefuseToCheck MayOpen (Filters error) =
-    (layers : List Layer) × (dates : Option ℕ) × MayOpen (Ok layers) × Sound layers × AreDatesFound layers dates
-    × MayRefuseFilters layers error
+MayRefuseToCheck MayOpen refusal = (layers : List Layer) × MayOpen (Ok layers) × Sound layers × MayRefuseChunks layers refusal
 
 -- what `check` may answer
 abbrev pub MayFindInAll : (Result (List Layer) OpenError → Type 0) → Result Findings CheckRefusal → Type 0
@@ -122,14 +127,13 @@ check_refusal_text (Graph refusal) = refusal_text refusal
 check_refusal_text (Dates error) = codes "refused dates " ⧺ dates_text error
 check_refusal_text (Filters error) = codes "refused filters " ⧺ filters_text error
 
--- the lines of a graph with these statistics, dates and filters
-abbrev pub check_found_text : Outcome → Option ℕ → Option ℕ → List ℕ
-check_found_text outcome dates filters =
-    outcome_text outcome ⧺ commits_line (codes "dates") dates ⧺ commits_line (codes "filters") filters
+-- the lines of what is found of the further chunks
+abbrev pub chunks_found_text : ChunksFound → List ℕ
+chunks_found_text found = commits_line (codes "dates") found.dates ⧺ commits_line (codes "filters") found.filters
 
 -- the lines of what is found, or of a refusal
 abbrev pub check_text : Result Findings CheckRefusal → List ℕ
-check_text (Ok findings) = check_found_text findings.outcome findings.dates findings.filters
+check_text (Ok findings) = outcome_text findings.outcome ⧺ chunks_found_text findings.chunks
 check_text (Err refusal) = check_refusal_text refusal ⧺ newline
 
 -- 0 where all is right, and else 1

@@ -7,11 +7,13 @@ ghost use Rattle.std.specs.Ordering.{nat_cmp};
 ghost use Rattle.gix_commitgraph.specs.Sound.{Sound};
 ghost use Rattle.graph_commands.specs.WrittenAnswer.{WritesAnswer};
 ghost use Rattle.graph_commands.specs.OpenerAnswer.{MayOpenIn};
-ghost use Rattle.history_commands.specs.Check.{AreDatesFound, AreFiltersFound, MayFindInAll};
-ghost use Rattle.history_commands.specs.Check.{MayRefuseDates, MayRefuseFilters};
-ghost use Rattle.history_commands.specs.Check.{MayRefuseToCheck};
-ghost use Rattle.history_commands.specs.Check.{check_text, check_status, commits_line};
-ghost use Rattle.history_commands.specs.Check.{check_found_text};
+ghost use Rattle.graph_commands.specs.Report.{outcome_text};
+ghost use Rattle.graph_commands.specs.Text.{◌⧺◌};
+ghost use Rattle.history_commands.specs.Check.{AreChunksFound, AreDatesFound, AreFiltersFound};
+ghost use Rattle.history_commands.specs.Check.{MayFindInAll, MayRefuseChunks, MayRefuseDates};
+ghost use Rattle.history_commands.specs.Check.{MayRefuseFilters, MayRefuseToCheck};
+ghost use Rattle.history_commands.specs.Check.{check_status, check_text, chunks_found_text};
+ghost use Rattle.history_commands.specs.Check.{commits_line};
 
 use crate::opening::open_checked;
 use gix_commitgraph::Graph;
@@ -27,6 +29,17 @@ use graph_history::CheckedGraph;
 use std::alloc::Global;
 use std::fmt;
 use std::io::Write;
+
+/// What is found of the further chunks of a graph.
+#[derive(Clone, Copy, Debug)]
+pub struct ChunksFound {
+    /// How many commits have a corrected date: all of them, or `None` where some layer has no
+    /// dates.
+    pub dates: Option<u32>,
+    /// How many commits have a changed-path filter that was computed, or `None` where no layer has
+    /// filters.
+    pub filters: Option<u32>,
+}
 
 /// Why `check` refuses what a path opens. It is displayed as its line, without the line's end.
 #[derive(Debug, Drop)]
@@ -153,8 +166,8 @@ pub fn run_check<T: Folder, W: Write>(
     ensures tree { T.tree folder.new ≡ T.tree folder.old }
 {
     match check(alloc, folder, path) {
-        Ok((graph, dates, filters)) => {
-            write_findings(writer, graph.as_checked().outcome(), dates, filters)?;
+        Ok((graph, chunks)) => {
+            write_findings(writer, graph.as_checked().outcome(), chunks)?;
             Ok(Status::Yes as u8)
         }
         Err(refusal) => {
@@ -169,16 +182,15 @@ pub fn run_check<T: Folder, W: Write>(
 fn write_findings<W: Write>(
     writer: &mut W,
     outcome: &Outcome,
-    dates: Option<u32>,
-    filters: Option<u32>,
+    chunks: ChunksFound,
 ) -> Result<(), WriteFailed>
     ensures written { OnOk result (Appends (W.contents writer.old) (W.contents writer.new)
-        (check_found_text outcome.now dates filters)) }
+        (outcome_text outcome.now ⧺ chunks_found_text chunks)) }
     ensures ascending { OnOk result (IsOrdered nat_cmp outcome.now.parent_counts) }
 {
     write_outcome(writer, outcome)?;
-    write_count(writer, "dates", dates)?;
-    write_count(writer, "filters", filters)
+    write_count(writer, "dates", chunks.dates)?;
+    write_count(writer, "filters", chunks.filters)
 }
 
 /// Writes how many commits have what is counted, or `none`. `WriteFailed` comes where the writer
@@ -197,36 +209,44 @@ fn write_count<W: Write>(
     }
 }
 
-/// The graph that the path opens, which was checked; how many of its commits have a corrected date,
-/// if each layer has dates; and how many have a filter that was computed, if some layer has
-/// filters.
+/// The graph that the path opens, which was checked, and what its further chunks have.
 fn check<T: Folder>(
     alloc: Global,
     folder: &mut T,
     path: &str,
-) -> Result<(CheckedGraph, Option<u32>, Option<u32>), CheckRefusal>
+) -> Result<(CheckedGraph, ChunksFound), CheckRefusal>
     ensures opened { IfOk result (λ checked.
         MayOpenIn T.Folder folder.old folder.new path.now (Ok checked.0.layers)) }
-    ensures dates { IfOk result (λ checked. AreDatesFound checked.0.layers checked.1) }
-    ensures filters { IfOk result (λ checked. AreFiltersFound checked.0.layers checked.2) }
+    ensures chunks { IfOk result (λ checked. AreChunksFound checked.0.layers checked.1) }
     ensures refused { IfErr result (MayRefuseToCheck
         (MayOpenIn T.Folder folder.old folder.new path.now)) }
     ensures tree { T.tree folder.new ≡ T.tree folder.old }
 {
     let graph = open_checked(alloc, folder, path)?;
-    let dates = count_dates(alloc, graph.as_checked().graph())?;
-    let filters = count_filters(alloc, graph.as_checked().graph())?;
-    Ok((graph, dates, filters))
+    let chunks = check_chunks(alloc, graph.as_checked().graph())?;
+    Ok((graph, chunks))
 }
 
-/// How many commits have a corrected date, in a graph that is right: all of them, or `None` where
-/// some layer has no dates.
+/// Checks the further chunks of a graph that is right, as `check` does: its corrected dates, and
+/// then its changed-path filters.
 ///
 /// # Errors
 ///
-/// Those of [`CorrectedDates::of_graph`]: the first fault of the dates, where each layer has some.
+/// `Dates`, the first fault of the dates, where each layer has some; else `Filters`, that of the
+/// filters. Each comes also where memory ran out for it.
+pub fn check_chunks(alloc: Global, graph: &Graph) -> Result<ChunksFound, CheckRefusal>
+    requires { Sound graph.now }
+    ensures found { IfOk result (AreChunksFound graph.now) }
+    ensures refused { IfErr result (MayRefuseChunks graph.now) }
+{
+    let dates = count_dates(alloc, graph)?;
+    let filters = count_filters(alloc, graph)?;
+    Ok(ChunksFound { dates, filters })
+}
+
+/// How many commits have a corrected date, if each layer has dates, in a graph that is right.
 #[tactic(auto, unfolding(crate::specs::Check::MayRefuseDates))]
-pub fn count_dates(alloc: Global, graph: &Graph) -> Result<Option<u32>, DatesError>
+fn count_dates(alloc: Global, graph: &Graph) -> Result<Option<u32>, DatesError>
     requires { Sound graph.now }
     ensures found { IfOk result (AreDatesFound graph.now) }
     ensures refused { IfErr result (MayRefuseDates graph.now) }
@@ -238,13 +258,9 @@ pub fn count_dates(alloc: Global, graph: &Graph) -> Result<Option<u32>, DatesErr
     }
 }
 
-/// How many commits have a filter that was computed, or `None` where no layer has filters.
-///
-/// # Errors
-///
-/// Those of [`GraphFilters::of_graph`]: the first fault of the filters.
+/// How many commits have a filter that was computed, if some layer has filters.
 #[tactic(auto, unfolding(crate::specs::Check::MayRefuseFilters))]
-pub fn count_filters(alloc: Global, graph: &Graph) -> Result<Option<u32>, FiltersError>
+fn count_filters(alloc: Global, graph: &Graph) -> Result<Option<u32>, FiltersError>
     ensures found { IfOk result (AreFiltersFound graph.now) }
     ensures refused { IfErr result (MayRefuseFilters graph.now) }
 {

@@ -15,4 +15,4 @@ pub mod opening;
 pub mod run;
 pub mod words;
 
-pub use check::{CheckRefusal, count_dates, count_filters};
+pub use check::{CheckRefusal, ChunksFound, check_chunks};

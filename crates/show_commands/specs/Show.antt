@@ -9,26 +9,22 @@ use Rattle.graph_layer.specs.declared.opening.error.OpenError.{OpenError}
 use Rattle.gix_commitgraph.specs.Graph.{total}
 use Rattle.gix_commitgraph.specs.Sound.{Sound}
 use Rattle.graph_ancestors.specs.RefusedGraph.{MayRefuseGraph}
-use Rattle.graph_chunks.specs.GraphFilters.{graph_filters_refusal}
 use Rattle.graph_commands.specs.RefusalLines.{refusal_text}
 use Rattle.graph_commands.specs.Text.{◌⧺◌, newline}
 use Rattle.graph_commands.specs.declared.refusal.Refusal.TheVariants.{Id, Read, File, Open, Verify, Walk}
-use Rattle.history_commands.specs.Check.{AreDatesFound, MayRefuseDates, MayRefuseFilters, check_refusal_text}
+use Rattle.history_commands.specs.Check.{AreChunksFound, MayRefuseChunks, check_refusal_text}
 use Rattle.history_commands.specs.declared.check.CheckRefusal.{CheckRefusal}
-use Rattle.history_commands.specs.declared.check.CheckRefusal.TheVariants.{Graph, Dates, Filters}
+use Rattle.history_commands.specs.declared.check.CheckRefusal.TheVariants.{Graph}
+use Rattle.history_commands.specs.declared.check.ChunksFound.{ChunksFound}
 use Rattle.show_commands.specs.LayerLines.{layer_lines}
 
--- the dates of a graph are right, or some layer has none
-abbrev pub HasRightDates : List Layer → Type 0
-HasRightDates layers = (commits : Option ℕ) × AreDatesFound layers commits
-
--- A graph is right, with its dates and its filters.
+-- A graph is right, and nothing refuses its further chunks.
 pub record IsRightThroughout (layers : List Layer) : Type 0 where
   pub sound : Sound layers
-  pub dates : HasRightDates layers
-  pub filters : graph_filters_refusal layers ≡ None
+  pub found : ChunksFound
+  pub chunks : AreChunksFound layers found
 
--- why a graph may be found wrong, or not be checked for want of memory: itself; else its dates; and else its filters
+-- why a graph may be found wrong, or not be checked for want of memory: itself; and else its further chunks, as `check` says
 abbrev pub MayFindWrong : List Layer → CheckRefusal → Type 0
 MayFindWrong layers (Graph (Verify error)) = MayRefuseGraph layers error
 MayFindWrong layers (Graph (Id error)) = ⊥
@@ -36,8 +32,7 @@ MayFindWrong layers (Graph (Read error)) = ⊥
 MayFindWrong layers (Graph (File error)) = ⊥
 MayFindWrong layers (Graph (Open error)) = ⊥
 MayFindWrong layers (Graph Walk) = ⊥
-MayFindWrong layers (Dates error) = Sound layers × MayRefuseDates layers error
-MayFindWrong layers (Filters error) = Sound layers × HasRightDates layers × MayRefuseFilters layers error
+MayFindWrong layers refusal = Sound layers × MayRefuseChunks layers refusal
 
 -- what is found of a graph: nothing wrong, or why it is refused
 abbrev pub IsCheckVerdict : List Layer → Option CheckRefusal → Type 0

@@ -55,7 +55,7 @@ module _ (layers : List Layer) (right : IsRightThroughout layers) where
             absurd (none-some fault (sym (ap graph_dates_refusal same ∙ right.dates stored) ∙ wrong))
         | inr memory ↦ memory.0
       ]
-  refused (Filters fault) (found, dates, opened, sound, has_dates, may) =
+  refused (Filters fault) (found, opened, sound, dates, has_dates, may) =
       let same : found ≡ layers = cc in
       elim may [
         | inl wrong ↦ absurd (none-some fault (sym (ap graph_filters_refusal same ∙ right.filters) ∙ wrong))

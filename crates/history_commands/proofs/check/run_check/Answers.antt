@@ -10,13 +10,12 @@ returns-in_ok-write_findings-in-Ok-clause-written g c =
     let layers = c.in-Ok.graph.layers in
     let outcome = c.outcome-in-Ok.result.now in
     let statistics : Stats layers outcome = rw c.as_checked.ensures.same at c.outcome-in-Ok.ensures in
-    let findings : Findings = record { outcome = outcome; dates = c.in-Ok.dates; filters = c.in-Ok.filters } in
+    let findings : Findings = record { outcome = outcome; chunks = c.in-Ok.chunks } in
     let are : AreFindings layers findings = record {
       right = c.as_checked.ensures.right.sound;
       statistics = statistics;
       ascending = c.in_ok-write_findings-in-Ok.ensures.ascending;
-      dates = c.in-Ok.ensures.dates;
-      filters = c.in-Ok.ensures.filters;
+      chunks = c.in-Ok.ensures.chunks;
     } in
     (Ok findings, (layers, c.in-Ok.ensures.opened, are), c.in_ok-write_findings-in-Ok.ensures.written, refl)
 
