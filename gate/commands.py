@@ -105,7 +105,7 @@ def main(words):
     if words not in ([], ["--write"]):
         print("usage: gate/commands.py [--write]", file=sys.stderr)
         return 2
-    texts = {path: read(path) for path in (DOCUMENT, TABLE, *map(main_of, PROGRAMS))}
+    texts = read_texts()
     others = {path: text for path, text in made(texts).items() if text != texts[path]}
     for path, text in others.items():
         print(path)
@@ -115,10 +115,13 @@ def main(words):
     return 0 if words or not others else 1
 
 
-def read(path):
-    """The text of a file."""
-    with open(os.path.join(TOP, path), encoding="utf-8", newline="") as file:
-        return file.read()
+def read_texts():
+    """The document, and all that is made of its table."""
+    texts = {}
+    for path in (DOCUMENT, TABLE, *map(main_of, PROGRAMS)):
+        with open(os.path.join(TOP, path), encoding="utf-8", newline="") as file:
+            texts[path] = file.read()
+    return texts
 
 
 if __name__ == "__main__":

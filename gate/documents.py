@@ -20,9 +20,6 @@ FOUND_BY_NAME = re.compile(r"suites/real_data/checks/\w+_checks\.py")
 """Modules that another one finds by what stands in their folder."""
 
 KNOWN_TO_GIT = (".gitignore",)
-OPERANDS = {"input": "", "path": " PATH", "optional": " [PATH]", "trusted": " [--unchecked] PATH"}
-"""What stands before the ids of a command, by what the table of commands says that it reads."""
-
 CODE = re.compile(r"[A-Za-z_]\w*(::\w+)*")
 LINK = re.compile(r"\]\(([^)#:]+)\)")
 README = re.compile(r"crates/(\w+)/README\.md")
@@ -73,16 +70,6 @@ def unnamed_files(texts):
         word = re.compile(r"(?<![\w-])%s(?![\w-])" % re.escape(name))
         if path not in KNOWN_TO_GIT and not any(word.search(text) for other, text in ours.items() if other != path):
             yield path
-
-
-def missing_commands(texts):
-    """The commands of the table of commands, with their operands and what they do, that no row of docs/PROGRAMS.md has."""
-    rows = texts["docs/PROGRAMS.md"].split("\n")
-    for line in filter(lambda line: line and not line.startswith("#"), texts["tables/commands"].split("\n")):
-        word, program, reads, ids, _, about = line.split(None, 5)
-        more = " [FROM TO]" if ids == "range" else " HEX" * int(ids[0]) + ".." * ids.endswith("+")
-        if "| `%s %s%s%s` | %s |" % (program, word, OPERANDS[reads], more, about) not in rows:
-            yield "%s %s" % (program, word)
 
 
 def with_folders(path):

@@ -104,7 +104,8 @@ module _ (S : Type 0) (layers_of : S → List Layer) where
   abbrev taken : (Result (List Layer) OpenError → Type 0) → S → S → Result (Result ℕ (VerifyError NoFault)) OpenError → Type 0
   taken MayOpen s t answer = TakesBy MayOpen (layers_of s) (layers_of t) answer
 
-  taken-widen : (P Q : Result (List Layer) OpenError → Type 0) (s t : S) (answer : Result (Result ℕ (VerifyError NoFault)) OpenError)
+  taken-widen : (P Q : Result (List Layer) OpenError → Type 0) (s t : S)
+      (answer : Result (Result ℕ (VerifyError NoFault)) OpenError)
       → ((given : Result (List Layer) OpenError) → is_settled given ≡ is_settled answer → P given → Q given)
       → taken P s t answer → taken Q s t answer
   taken-widen P Q s t (Ok (Ok checked)) wider of = ((wider (Ok (layers_of t)) refl of.0.0, of.0.1), of.1)
