@@ -19,14 +19,8 @@ ENUMS = {
 }
 """Where the enum of each kind of error stands, and its name."""
 
-LINES = {
-    "id": "refused id %d", "read": "refused read %d", "entry": "refused objects %d position P", "open": "refused open %d",
-    "file": "refused file %d", "chunk": "refused file 5 chunk %d", "graph": "refused open 6 graph %d", "verify": "refused verify %d",
-    "layer": "refused verify 4 layer L fault %d", "commit": "refused verify 5 position P fault %d", "parent": "!%d",
-    "dates": "refused dates %d", "filters": "refused filters %d", "mismatch": "refused objects %d position P",
-    "write": "refused write %d",
-}
-"""The line that a program writes for an error of each kind."""
+NUMBERED_LINE = re.compile(r"(.*\D)(\d+)\D*")
+"""The line that a program writes for an error, in two parts: what the lines of all errors of its kind begin with, and its number."""
 
 ENUM = r"^pub enum %s \{\n(.*?)^\}"
 COMMENT = re.compile(r"^ +(?:///|#\[).*\n", re.MULTILINE)
@@ -71,18 +65,19 @@ def row_of(error, rows):
     return next((row for row in rows if row.error == "%s.%s" % (error.kind, error.name)), None)
 
 
-def number_of(row, kind):
-    """The number by which the programs tell the error of a row."""
-    found = re.match(re.escape(LINES[kind]).replace("%d", r"(\d+)"), row.line)
-    return int(found.group(1)) if found else None
+def beginning_of(row):
+    """What the lines of the errors of a row's kind begin with, or None where its error has no line."""
+    found = NUMBERED_LINE.fullmatch(row.line)
+    return found and found.group(1)
 
 
-def in_lines(row, kind):
-    """That number, where there is one."""
-    return row and number_of(row, kind)
+def in_lines(row):
+    """The number by which the programs tell the error of a row, where there is one."""
+    found = row and NUMBERED_LINE.fullmatch(row.line)
+    return int(found.group(2)) if found else None
 
 
-def in_library(row, kind):
+def in_library(row):
     """The number by which the library tells it."""
     return row and row.number
 
@@ -94,7 +89,7 @@ def listed(kind, texts, rows, number, text, head, named, made):
     there = {re.search(named, line).group(1): line for line in found.group(1).splitlines(True)}
     lines = []
     for error in errors(kind, texts):
-        told, line = number(row_of(error, rows), kind), there.get(error.name)
+        told, line = number(row_of(error, rows)), there.get(error.name)
         if told is not None and (line is None or not re.search(r"\b%d\b,?$" % told, line)):
             line = made(error, told)
         lines.append(line or "")
@@ -237,7 +232,7 @@ def numbers_in_example(rows, texts, text):
 
         def line(row, name, kinds=kinds, words=function == "file_number"):
             kind = row.error.partition(".")[0]
-            told = '"%s"' % row.line[len("refused file ") :] if words else number_of(row, kind)
+            told = '"%s"' % row.line[len("refused file ") :] if words else in_lines(row)
             return "        %s::%s => %s,\n" % (kinds[kind], name, told)
 
         head = r"^fn %s\((?:[^\n]*\n)*?    match \w+ \{\n" % function

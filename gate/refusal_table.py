@@ -10,7 +10,7 @@ import sys
 from typing import List, NamedTuple, Optional
 
 import error_lists
-from error_lists import LINES
+from error_lists import beginning_of, in_lines
 
 TOP = os.path.dirname(os.path.dirname(os.path.abspath(__file__)))
 TABLE = "tables/refusals.tsv"
@@ -274,20 +274,15 @@ KINDS = {
 }
 """The kind of the errors of which a definition tells that does not name it."""
 
-BASES = {
-    "open": 20, "file": 100, "chunk": 150, "graph": 200, "verify": 300, "layer": 340, "commit": 350, "parent": 360, "dates": 400,
-    "filters": 500, "mismatch": 600, "write": 700,
-}
-"""What the library adds to the numbers of each kind."""
-
 WITHOUT_ROW = {"file.Chunks", "graph.OutOfMemory", "read.NotOpened", "entry.OtherContents"}
 """Errors of whose number no row is: one has rows of its own kind, one is told by another line, one never comes, and one has the number
 and the row of a mismatch."""
 
 
 def wrong_rows(texts):
-    """The rows of the table that repeat what stands once, that have other numbers than the definitions, or a number of the library
-    that is not the one of its line and the base of its kind; and the definitions without a row."""
+    """The rows of the table that repeat what stands once, that have other numbers than the definitions, a line that does not begin as
+    the first one of their kind, or a number of the library to which that adds another number than there; and the definitions without a
+    row."""
     rows = rows_of(texts[TABLE])
     for title in ("number", "name", "error"):
         there = [getattr(row, title) for row in rows if getattr(row, title) not in ("", None)]
@@ -296,19 +291,17 @@ def wrong_rows(texts):
     own = {row.error: row for row in rows if row.error}
     defined = defined_in_lines(texts)
     yield from ("%s has no row of %s" % (TABLE, error) for error in sorted(defined.keys() - own.keys() - WITHOUT_ROW))
+    lines, bases = {}, {}
     for error, row in own.items():
         kind = error.partition(".")[0]
-        number = row.number - BASES[kind] if row.number is not None and kind in BASES else defined.get(error)
-        if row.line and (number is None or not begins(row.line, LINES[kind] % number)):
+        if row.line and row.number is not None:
+            bases.setdefault(kind, row.number - (in_lines(row) or 0))
+        number = row.number - bases[kind] if row.number is not None and kind in bases else defined.get(error)
+        if row.line and (number is None or number != in_lines(row) or lines.setdefault(kind, beginning_of(row)) != beginning_of(row)):
             yield "%s: %s is the number of %s in no line such as %r" % (TABLE, number, error, row.line)
         if error in defined and defined[error] != number:
             yield "%s: the definitions have %d for %s" % (TABLE, defined[error], error)
     yield from ("%s: %s has no error" % (TABLE, row.line) for row in rows if row.number and not row.error)
-
-
-def begins(line, start):
-    """Whether a line is another one, or goes on after it with further words."""
-    return (line + " ").startswith(start + " ")
 
 
 def defined_in_lines(texts):

@@ -6,8 +6,8 @@ usage: python3 suites/costs [--large] [GRAPHTOOL HISTORYTOOL LIBRARY [NAME..]]
 The table is `table.py`, and the histories are in `shapes.py`: many layers, many parents, others and words of one list, ids that are
 alike in front or spread unevenly, one commit on top of many, and few commits with many bytes. Valgrind counts instructions, the same on
 each machine, however busy it is, and counting.c bytes of memory. Only how they grow is compared, so what is the same at each size
-counts for nothing. Each answer has to be the one of the plan too. A check refuses a command or a question without a row, and a call
-without one may cost no more, however large the graph is.
+counts for nothing. Each answer has to be the one of the plan too. A check refuses a question without a row. A command without one may
+cost what a check of its graph does, and a call no more, however large the graph is.
 
 Without the programs and the shared library, `building/program` and `building/library` find them, and prove and build them first where
 a source is newer. A path `-` comes as a line of standard input. NAME is that of a shape, as tower, or of a row, as `ask walk`: then

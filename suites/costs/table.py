@@ -1,12 +1,13 @@
 """The table: for each command, question and call of the library for C, how its instructions and the bytes that it asks of the heap may
-grow with shapes that are made to do harm. What is new joins by a row here, behind its row in the table of suites/sizes, which says what
-it is asked. A call that costs the same whatever the graph needs no row here.
+grow with shapes that are made to do harm. The table of suites/sizes says what each is asked. A command that checks its graph once needs
+no row here, and no call that costs the same whatever the graph; what may cost more, or is to cost less, has one, and so has a question.
 """
 
 from typing import NamedTuple, Tuple
 
 from costs.growth import BY_BYTES, BY_PARENTS, CONSTANT, IN_STEPS, LINEAR, LOGARITHMIC, N_LOG_N, SQUARE, Growth
 from sizes import library
+from sizes import table as asked
 
 SIZES = {
     **{"lines": 500, "layers": 25, "alike": 25, "parents": 200, "lists": 100, "prefix": 1000, "steps": 1000, "tower": 1000},
@@ -58,7 +59,7 @@ class Row(NamedTuple):
         return self._replace(name=self.name.replace(UNCHECKED, "") if is_question else self.name)
 
 
-COMMANDS = (
+STATED = (
     Row("list", ("lines", "parents"), LINEAR.at_most(6), LINEAR),
     Row("list", ("layers",), LINEAR, LINEAR),
     Row("list", ("lists",), BY_PARENTS, IN_STEPS.at_most(0.5)),
@@ -92,10 +93,6 @@ COMMANDS = (
     Row("merge-base-ids --unchecked", ("parents",), LINEAR, LINEAR),
     Row("merge-base-ids --unchecked", ("tower",), LOGARITHMIC, LOGARITHMIC),
     Row("merge-base-ids --unchecked", FEW, CONSTANT, CONSTANT),
-    Row("check", ("lines", "lists", *FEW), LINEAR.at_most(ONCE), LINEAR),
-    Row("check", ("layers",), BY_BYTES.at_most(ONCE_IN_LAYERS), LINEAR),
-    Row("show", ("lines", "lists", *FEW), LINEAR.at_most(ONCE), LINEAR),
-    Row("show", ("layers",), BY_BYTES.at_most(ONCE_IN_LAYERS), LINEAR),
     Row("ids", ("lines",), LINEAR.at_most(4), LINEAR),
     Row("ids", ("layers",), LINEAR, LINEAR),
     Row("ids", ("padding",), LINEAR.at_most(0.5), LINEAR),
@@ -115,7 +112,19 @@ COMMANDS = (
     Row("merge", ("layers",), BY_BYTES.at_most(ONCE_IN_LAYERS), LINEAR),
     Row("merge", ("lists",), BY_PARENTS, BY_PARENTS),
 )
-"""The commands."""
+"""The commands that may cost more than others, or less, or are asked of other shapes."""
+
+
+def any_other(name):
+    """The rows of a command that has none: it checks its graph once, and takes no more memory than that."""
+    yield Row(name, ("lines", "lists", *FEW), LINEAR.at_most(ONCE), LINEAR)
+    yield Row(name, ("layers",), BY_BYTES.at_most(ONCE_IN_LAYERS), LINEAR)
+
+
+UNSTATED = {asked.base(row.name) for row in asked.COMMANDS} - {asked.base(row.name) for row in STATED}
+
+COMMANDS = (*STATED, *(row for name in sorted(UNSTATED) for row in any_other(name)))
+"""All commands."""
 
 
 def both(name, shapes, instructions, memory):
