@@ -14,6 +14,7 @@ use Rattle.object_stream.specs.BatchEntry.{BeginsWithEntry}
 use Rattle.object_stream.specs.NextEntry.{IsEntryError}
 use Rattle.object_stream.specs.declared.error.EntryError.{EntryError}
 use Rattle.object_stream.proofs.OnceLemmas.{entry_error_once, entry_not_refused}
+use Rattle.object_stream.specs.declared.object_type.ObjectType.TheVariants as object
 use Rattle.graph_objects.specs.Matching.{AreContents, MatchesAt, recorded_parents, each_known}
 use Rattle.graph_objects.specs.Mismatches.{Mismatches, MismatchesAt, IsAmiss, DifferFirstAt}
 use Rattle.graph_objects.specs.Stream.{graph_id_at, IsStreamUpTo, IsEntryErrorAt, IsMismatchIn, IsStreamRefusal}
@@ -125,10 +126,10 @@ entry_once_refused : (layers : List Layer) (p : ℕ) (bytes : List ℕ) (e f : E
 entry_once_refused layers p bytes e f = by (slice_get (graph_commits layers) p)
   where
     by : (o : Option (Layer × ℕ))
-        → IsSomeAnd o (λ place. IsEntryError place.0.kind (Some (graph_id_at layers p)) bytes e)
-        → IsSomeAnd o (λ place. IsEntryError place.0.kind (Some (graph_id_at layers p)) bytes f) → e ≡ f
+        → IsSomeAnd o (λ place. IsEntryError place.0.kind object.Commit (Some (graph_id_at layers p)) bytes e)
+        → IsSomeAnd o (λ place. IsEntryError place.0.kind object.Commit (Some (graph_id_at layers p)) bytes f) → e ≡ f
     by None one two = absurd one
-    by (Some place) one two = entry_error_once place.0.kind (Some (graph_id_at layers p)) bytes e f one two
+    by (Some place) one two = entry_error_once place.0.kind object.Commit (Some (graph_id_at layers p)) bytes e f one two
 
 -- what does not match is there
 there_or_not : (layers : List Layer) (p : ℕ) (bytes : List ℕ) (e : EntryError) (m : Difference) → IsMismatchIn layers p bytes m
@@ -136,8 +137,8 @@ there_or_not : (layers : List Layer) (p : ℕ) (bytes : List ℕ) (e : EntryErro
 there_or_not layers p bytes e m differs refused =
     let a = contents_there layers p differs.0 differs.3 in
     let kind = a.0.kind in
-    let here : IsEntryError kind (Some (graph_id_at layers p)) bytes e = rw a.2 at refused in
-    entry_not_refused kind (Some (graph_id_at layers p)) bytes differs.0 differs.1 (rw a.3 at differs.2)
+    let here : IsEntryError kind object.Commit (Some (graph_id_at layers p)) bytes e = rw a.2 at refused in
+    entry_not_refused kind object.Commit (Some (graph_id_at layers p)) bytes differs.0 differs.1 (rw a.3 at differs.2)
     (ap encode_lower (sym a.3)) e here
 
 stop_once : (layers : List Layer) (pos : Position) (bytes : List ℕ) (e f : ObjectsError) → IsStop layers pos bytes e
@@ -162,7 +163,7 @@ stop_once layers pos bytes e OutOfMemory one two = absurd two
 
 -- an entry that matches is not refused
 not_stopped : (layers : List Layer) (pos : Position) (bytes contents next : List ℕ) (e : ObjectsError)
-    → BeginsWithEntry (graph_id_at layers pos.0) bytes contents next → MatchesAt layers pos.0 contents
+    → BeginsWithEntry object.Commit (graph_id_at layers pos.0) bytes contents next → MatchesAt layers pos.0 contents
     → ¬ (IsStop layers pos bytes e)
 not_stopped layers pos bytes contents next (Entry p e) entry matches stop =
     not_refused layers pos.0 bytes contents next entry matches e stop.1

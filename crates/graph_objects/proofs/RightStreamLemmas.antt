@@ -6,10 +6,11 @@ use Rattle.std.proofs.lemmas.Option.{same_Some}
 use Rattle.hex.specs.Hex.{encode_lower}
 use Rattle.graph_format.specs.Layer.{Layer}
 use Rattle.commit_objects.specs.Object.{object_id_of}
-use Rattle.object_stream.specs.BatchEntry.{commit_entry, BeginsWithEntry}
+use Rattle.object_stream.specs.BatchEntry.{object_entry, BeginsWithEntry}
 use Rattle.object_stream.specs.NextEntry.{IsEntryError}
 use Rattle.object_stream.specs.declared.error.EntryError.{EntryError}
 use Rattle.object_stream.proofs.OnceLemmas.{entry_not_refused, entry_once}
+use Rattle.object_stream.specs.declared.object_type.ObjectType.TheVariants as object
 use Rattle.graph_objects.specs.Matching.{AreContentsAt, MatchesAt}
 use Rattle.graph_objects.specs.Stream.{graph_id_at, entries_of, AllMatch, IsStreamUpTo, IsStreamOf, IsEntryErrorAt, IsMismatchIn}
 use Rattle.graph_objects.specs.Stream.{IsStreamRefusal}
@@ -21,7 +22,8 @@ use Rattle.graph_objects.proofs.MatchLemmas.{excluded}
 
 -- an entry at the front is one, where the id at the position is that of its contents
 pub entry_once_at : (layers : List Layer) (p : ℕ) (bytes contents other next end : List ℕ)
-    → BeginsWithEntry (graph_id_at layers p) bytes contents next → BeginsWithEntry (graph_id_at layers p) bytes other end
+    → BeginsWithEntry object.Commit (graph_id_at layers p) bytes contents next
+    → BeginsWithEntry object.Commit (graph_id_at layers p) bytes other end
     → AreContentsAt layers p contents → AreContentsAt layers p other → (contents ≡ other) × (next ≡ end)
 entry_once_at layers p bytes contents other next end one two own its =
     let a = contents_there layers p contents own in
@@ -30,18 +32,18 @@ entry_once_at layers p bytes contents other next end one two own its =
     let kind = a.0.kind in
     let second : graph_id_at layers p ≡ object_id_of kind other =
     b.3 ∙ ap (λ (l : Layer). object_id_of l.kind other) same in
-    entry_once kind bytes contents other next end (rw a.3 at one) (rw second at two)
+    entry_once kind object.Commit bytes contents other next end (rw a.3 at one) (rw second at two)
 
 -- an entry that matches is not refused
 module _ (layers : List Layer) (p : ℕ) (bytes contents next : List ℕ)
-    (entry : BeginsWithEntry (graph_id_at layers p) bytes contents next)
+    (entry : BeginsWithEntry object.Commit (graph_id_at layers p) bytes contents next)
     (matches : MatchesAt layers p contents) where
   pub not_refused : (e : EntryError) → ¬ (IsEntryErrorAt layers p bytes e)
   not_refused e refused =
       let a = contents_there layers p contents (matched_contents layers p contents matches) in
       let kind = a.0.kind in
-      let here : IsEntryError kind (Some (graph_id_at layers p)) bytes e = rw a.2 at refused in
-      entry_not_refused kind (Some (graph_id_at layers p)) bytes contents next (rw a.3 at entry)
+      let here : IsEntryError kind object.Commit (Some (graph_id_at layers p)) bytes e = rw a.2 at refused in
+      entry_not_refused kind object.Commit (Some (graph_id_at layers p)) bytes contents next (rw a.3 at entry)
       (ap encode_lower (sym a.3)) e here
 
   pub not_mismatched : (m : Difference) → ¬ (IsMismatchIn layers p bytes m)
@@ -80,14 +82,14 @@ has_more layers first (c ∷ some) (d ∷ all) bytes next end one two e f fewer 
     let id = graph_id_at layers first in
     let rest = entries_of layers (first + 1) some ++ next in
     let others = entries_of layers (first + 1) all ++ end in
-    let front : BeginsWithEntry id bytes c rest = record {
+    let front : BeginsWithEntry object.Commit id bytes c rest = record {
       whole = e
-          ∙ append_assoc (commit_entry id c) (entries_of layers (first + 1) some) next;
+          ∙ append_assoc (object_entry object.Commit id c) (entries_of layers (first + 1) some) next;
       fits = one.0.1;
     } in
-    let back : BeginsWithEntry id bytes d others = record {
+    let back : BeginsWithEntry object.Commit id bytes d others = record {
       whole = f
-          ∙ append_assoc (commit_entry id d) (entries_of layers (first + 1) all) end;
+          ∙ append_assoc (object_entry object.Commit id d) (entries_of layers (first + 1) all) end;
       fits = two.0.1;
     } in
     let same = entry_once_at layers first bytes c d rest others front back (matched_contents layers first c one.0.0)
@@ -99,7 +101,7 @@ has_more layers first (c ∷ some) (d ∷ all) bytes next end one two e f fewer 
 -- what stands at a position that more is read behind matches
 pub entry_there : (layers : List Layer) (first p q : ℕ) (bytes next last : List ℕ) → IsStreamUpTo layers first p bytes next
     → IsStreamUpTo layers first q bytes last → p < q
-    → (contents : List ℕ) × (rest : List ℕ) × BeginsWithEntry (graph_id_at layers p) next contents rest
+    → (contents : List ℕ) × (rest : List ℕ) × BeginsWithEntry object.Commit (graph_id_at layers p) next contents rest
     × MatchesAt layers p contents
 entry_there layers first p q bytes next last one two less =
     let all = has_more layers first one.contents two.contents bytes next last one.agree two.agree one.whole two.whole
@@ -107,19 +109,20 @@ entry_there layers first p q bytes next last one two less =
     by all.0 (omega (arith, all.1, one.counted, two.counted, less)) (rw one.counted at all.2)
   where
     by : (count : ℕ) → 0 < count → HasMore layers p count next last
-        → (contents : List ℕ) × (rest : List ℕ) × BeginsWithEntry (graph_id_at layers p) next contents rest
+        → (contents : List ℕ) × (rest : List ℕ) × BeginsWithEntry object.Commit (graph_id_at layers p) next contents rest
         × MatchesAt layers p contents
     by count some more = cases more.more more.counted more.agree more.whole
       where
         cases : (more : List (List ℕ)) → length more ≡ count → AllMatch layers p more → next ≡ entries_of layers p more ++ last
-            → (contents : List ℕ) × (rest : List ℕ) × BeginsWithEntry (graph_id_at layers p) next contents rest
+            → (contents : List ℕ) × (rest : List ℕ) × BeginsWithEntry object.Commit (graph_id_at layers p) next contents rest
             × MatchesAt layers p contents
         cases [] counted agree whole = absurd (omega (arith, counted, some))
         cases (c ∷ later) counted agree whole = (
           c,
           entries_of layers (p + 1) later ++ last,
           record {
-            whole = whole ∙ append_assoc (commit_entry (graph_id_at layers p) c) (entries_of layers (p + 1) later) last;
+            whole = whole ∙ append_assoc (object_entry object.Commit (graph_id_at layers p) c)
+            (entries_of layers (p + 1) later) last;
             fits = agree.0.1;
           },
           agree.0.0,
@@ -163,9 +166,9 @@ entries_of-append layers p [] others = let same : p ≡ p + length {A = List ℕ
     omega arith in ap (λ k. entries_of layers k others) same
 entries_of-append layers p (c ∷ some) others =
     let same : p + 1 + length some ≡ p + length (c ∷ some) = omega arith in
-    ap (λ l. commit_entry (graph_id_at layers p) c ++ l)
+    ap (λ l. object_entry object.Commit (graph_id_at layers p) c ++ l)
     (entries_of-append layers (p + 1) some others ∙ ap (λ k. entries_of layers (p + 1) some ++ entries_of layers k others) same)
-    ∙ sym (append_assoc (commit_entry (graph_id_at layers p) c) (entries_of layers (p + 1) some)
+    ∙ sym (append_assoc (object_entry object.Commit (graph_id_at layers p) c) (entries_of layers (p + 1) some)
     (entries_of layers (p + length (c ∷ some)) others))
 
 pub parts_join : (layers : List Layer) (first mid end : ℕ) (front back : List ℕ) → IsStreamOf layers first mid front

@@ -12,13 +12,14 @@ use Rattle.commit_objects.specs.CommitContents.{Said, Says}
 use Rattle.commit_objects.specs.Object.{object_id_of}
 use Rattle.commit_objects.specs.Time.{IsTime}
 use Rattle.commit_objects.proofs.ParentLemmas.{says_one}
-use Rattle.object_stream.specs.BatchEntry.{line_of_commit, commit_entry, BeginsWithEntry}
+use Rattle.object_stream.specs.BatchEntry.{object_line, object_entry, BeginsWithEntry}
 use Rattle.graph_objects.specs.Matching.{MatchesAt, recorded_parents, each_known}
 use Rattle.graph_objects.specs.OneGraph.{SayTheSameAt, HaveTheSameCommits, HaveNoTwoContents}
 use Rattle.graph_objects.specs.Stream.{graph_id_at, entries_of, AllMatch, IsStreamOf}
 use Rattle.graph_objects.proofs.CommitLemmas.{of_layer}
 use Rattle.graph_objects.proofs.DigestLemmas.{matched, matched-id}
 use Rattle.object_stream.proofs.OnceLemmas.{entry_once}
+use Rattle.object_stream.specs.declared.object_type.ObjectType.TheVariants as object
 
 -- the contents at a place match the commit there
 match_at : (layers : List Layer) (first : ℕ) (all : List (List ℕ)) → AllMatch layers first all → (k : ℕ) → k < length all
@@ -51,27 +52,28 @@ module _ (one other : List Layer) (kind : Kind) (one_alike : All (λ layer. laye
       absurd (omega (
         arith,
         ap length same,
-        length-append (commit_entry (graph_id_at other p) d) (entries_of other (p + 1) ds),
-        length-append (line_of_commit (graph_id_at other p) (length d)) (10 ∷ (d ++ 10 ∷ [])),
+        length-append (object_entry object.Commit (graph_id_at other p) d) (entries_of other (p + 1) ds),
+        length-append (object_line object.Commit (graph_id_at other p) (length d)) (10 ∷ (d ++ 10 ∷ [])),
       ))
   same_contents p (c ∷ cs) [] matched_one matched_other same =
       absurd (omega (
         arith,
         ap length same,
-        length-append (commit_entry (graph_id_at one p) c) (entries_of one (p + 1) cs),
-        length-append (line_of_commit (graph_id_at one p) (length c)) (10 ∷ (c ++ 10 ∷ [])),
+        length-append (object_entry object.Commit (graph_id_at one p) c) (entries_of one (p + 1) cs),
+        length-append (object_line object.Commit (graph_id_at one p) (length c)) (10 ∷ (c ++ 10 ∷ [])),
       ))
   same_contents p (c ∷ cs) (d ∷ ds) matched_one matched_other same =
       let matches = matched_one.0.0 in
       let also = matched_other.0.0 in
       let bytes = entries_of one p (c ∷ cs) in
-      let first : BeginsWithEntry (object_id_of kind c) bytes c (entries_of one (p + 1) cs) =
-      subst (λ id. BeginsWithEntry id bytes c (entries_of one (p + 1) cs)) (id_of one one_alike p c matches)
+      let first : BeginsWithEntry object.Commit (object_id_of kind c) bytes c (entries_of one (p + 1) cs) =
+      subst (λ id. BeginsWithEntry object.Commit id bytes c (entries_of one (p + 1) cs)) (id_of one one_alike p c matches)
       (record { whole = refl; fits = matched_one.0.1 }) in
-      let second : BeginsWithEntry (object_id_of kind d) bytes d (entries_of other (p + 1) ds) =
-      subst (λ id. BeginsWithEntry id bytes d (entries_of other (p + 1) ds)) (id_of other other_alike p d also)
+      let second : BeginsWithEntry object.Commit (object_id_of kind d) bytes d (entries_of other (p + 1) ds) =
+      subst (λ id. BeginsWithEntry object.Commit id bytes d (entries_of other (p + 1) ds)) (id_of other other_alike p d also)
       (record { whole = same; fits = matched_other.0.1 }) in
-      let parts = entry_once kind bytes c d (entries_of one (p + 1) cs) (entries_of other (p + 1) ds) first second in
+      let parts = entry_once kind object.Commit bytes c d (entries_of one (p + 1) cs)
+      (entries_of other (p + 1) ds) first second in
       let rest = same_contents (p + 1) cs ds matched_one.1 matched_other.1 parts.1 in
       cc (parts.0, rest)
 

@@ -7,8 +7,9 @@ use Rattle.std.specs.Io.KnownBytes.{Keeps, IsAtEnd, prepend_known}
 use Rattle.std.proofs.lemmas.List.{length-append, nil_from_length}
 use Rattle.graph_format.specs.Layer.{Layer}
 use Rattle.graph_format.specs.declared.Position.{Position}
-use Rattle.object_stream.specs.BatchEntry.{commit_entry, BeginsWithEntry}
+use Rattle.object_stream.specs.BatchEntry.{object_entry, BeginsWithEntry}
 use Rattle.object_stream.specs.FoundEntry.{BothKnown}
+use Rattle.object_stream.specs.declared.object_type.ObjectType.TheVariants as object
 use Rattle.graph_objects.specs.Matching.{MatchesAt}
 use Rattle.graph_objects.specs.Stream.{graph_id_at, entries_of, AllMatch, IsStreamUpTo, IsStreamOf, IsLong}
 use Rattle.graph_objects.specs.Stream.{MayRefuseStream, HasLong}
@@ -18,18 +19,19 @@ use Rattle.graph_objects.specs.declared.error.ObjectsError.TheVariants.{Entry, M
 
 -- one entry more
 pub entries_of-push : (layers : List Layer) (p : ℕ) (all : List (List ℕ)) (contents : List ℕ)
-    → entries_of layers p (all ++ contents ∷ []) ≡ entries_of layers p all ++ commit_entry (graph_id_at layers (p + length all))
+    → entries_of layers p (all ++ contents ∷ []) ≡ entries_of layers p all ++ object_entry object.Commit
+    (graph_id_at layers (p + length all))
     contents
 entries_of-push layers p [] contents =
-    append-nil (commit_entry (graph_id_at layers p) contents)
-    ∙ ap (λ k. commit_entry (graph_id_at layers k) contents) (sym (add-zero p))
+    append-nil (object_entry object.Commit (graph_id_at layers p) contents)
+    ∙ ap (λ k. object_entry object.Commit (graph_id_at layers k) contents) (sym (add-zero p))
 entries_of-push layers p (first ∷ all) contents =
     let same : p + 1 + length all ≡ p + length (first ∷ all) = omega arith in
-    ap (λ l. commit_entry (graph_id_at layers p) first ++ l)
+    ap (λ l. object_entry object.Commit (graph_id_at layers p) first ++ l)
     (entries_of-push layers (p + 1) all contents
-    ∙ ap (λ k. entries_of layers (p + 1) all ++ commit_entry (graph_id_at layers k) contents) same)
-    ∙ sym (append_assoc (commit_entry (graph_id_at layers p) first) (entries_of layers (p + 1) all)
-    (commit_entry (graph_id_at layers (p + length (first ∷ all))) contents))
+    ∙ ap (λ k. entries_of layers (p + 1) all ++ object_entry object.Commit (graph_id_at layers k) contents) same)
+    ∙ sym (append_assoc (object_entry object.Commit (graph_id_at layers p) first) (entries_of layers (p + 1) all)
+    (object_entry object.Commit (graph_id_at layers (p + length (first ∷ all))) contents))
 
 pub AllMatch-push : (layers : List Layer) (p : ℕ) (all : List (List ℕ)) (contents : List ℕ) → AllMatch layers p all
     → MatchesAt layers (p + length all) contents → length contents < 2 ^ 64 → AllMatch layers p (all ++ contents ∷ [])
@@ -43,7 +45,7 @@ pub none_passed : (layers : List Layer) (first : ℕ) (bytes : List ℕ) → IsS
 none_passed layers first bytes = record { contents = []; counted = omega arith; agree = tt; whole = refl }
 
 pub one_passed : (layers : List Layer) (first p : ℕ) (bytes mid contents next : List ℕ) → IsStreamUpTo layers first p bytes mid
-    → BeginsWithEntry (graph_id_at layers p) mid contents next → MatchesAt layers p contents
+    → BeginsWithEntry object.Commit (graph_id_at layers p) mid contents next → MatchesAt layers p contents
     → IsStreamUpTo layers first (p + 1) bytes next
 one_passed layers first p bytes mid contents next passed entry matches =
     let all = passed.contents in
@@ -53,8 +55,9 @@ one_passed layers first p bytes mid contents next passed entry matches =
       counted = omega (arith, length-append all (contents ∷ []), passed.counted);
       agree = AllMatch-push layers first all contents passed.agree matches_there entry.fits;
       whole = passed.whole ∙ ap (λ l. entries_of layers first all ++ l) entry.whole
-          ∙ sym (append_assoc (entries_of layers first all) (commit_entry (graph_id_at layers p) contents) next)
-          ∙ ap (λ k. (entries_of layers first all ++ commit_entry (graph_id_at layers k) contents) ++ next) (sym passed.counted)
+          ∙ sym (append_assoc (entries_of layers first all) (object_entry object.Commit (graph_id_at layers p) contents) next)
+          ∙ ap (λ k. (entries_of layers first all ++ object_entry object.Commit (graph_id_at layers k) contents) ++ next)
+          (sym passed.counted)
           ∙ ap (λ l. l ++ next) (sym (entries_of-push layers first all contents));
     }
 

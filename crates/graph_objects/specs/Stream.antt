@@ -4,9 +4,10 @@ use Rattle.std.specs.Prelude.{slice_index_or, slice_get, IsSomeAnd, Some}
 use Rattle.std.specs.List.{AllByRecursion, flat_map, enumerate_from}
 use Rattle.graph_format.specs.Layer.{Layer}
 use Rattle.gix_commitgraph.specs.Graph.{graph_commits, graph_ids}
-use Rattle.object_stream.specs.BatchEntry.{commit_entry, BeginsWithEntry}
+use Rattle.object_stream.specs.BatchEntry.{object_entry, BeginsWithEntry}
 use Rattle.object_stream.specs.NextEntry.{BeginsWithLongEntry, IsEntryError}
 use Rattle.object_stream.specs.declared.error.EntryError.{EntryError}
+use Rattle.object_stream.specs.declared.object_type.ObjectType.TheVariants as object
 use Rattle.graph_objects.specs.Matching.{AreContentsAt, MatchesAt}
 use Rattle.graph_objects.specs.Mismatches.{MismatchesAt}
 use Rattle.graph_objects.specs.declared.Mismatch.{Mismatch as Difference}
@@ -19,7 +20,7 @@ graph_id_at layers p = slice_index_or (graph_ids layers) p []
 
 -- the entries of commits with these contents, for the positions from p on
 abbrev pub entries_of : List Layer → ℕ → List (List ℕ) → List ℕ
-entries_of layers p all = flat_map (λ e. commit_entry (graph_id_at layers e.0) e.1) (enumerate_from p all)
+entries_of layers p all = flat_map (λ e. object_entry object.Commit (graph_id_at layers e.0) e.1) (enumerate_from p all)
 
 -- each of the contents matches the commit at its position, from p on; sizes have 64 bits
 abbrev pub AllMatch : List Layer → ℕ → List (List ℕ) → Type 0
@@ -40,19 +41,19 @@ IsStreamOf layers first end bytes = IsStreamUpTo layers first end bytes []
 abbrev pub IsEntryErrorAt : List Layer → ℕ → List ℕ → EntryError → Type 0
 IsEntryErrorAt layers p bytes error =
     IsSomeAnd (slice_get (graph_commits layers) p)
-    (λ place. IsEntryError place.0.kind (Some (graph_id_at layers p)) bytes error)
+    (λ place. IsEntryError place.0.kind object.Commit (Some (graph_id_at layers p)) bytes error)
 
 -- why the entry of the commit at a position, with which the bytes begin, does not match: the first reason
 abbrev pub IsMismatchIn : List Layer → ℕ → List ℕ → Difference → Type 0
 IsMismatchIn layers p bytes mismatch =
-    (contents : List ℕ) × (next : List ℕ) × BeginsWithEntry (graph_id_at layers p) bytes contents next
+    (contents : List ℕ) × (next : List ℕ) × BeginsWithEntry object.Commit (graph_id_at layers p) bytes contents next
     × AreContentsAt layers p contents × MismatchesAt layers p contents mismatch
 
 -- the bytes begin with the line of an entry of more than 64 KiB
 abbrev pub IsLong : List Layer → ℕ → List ℕ → Type 0
 IsLong layers p bytes =
     IsSomeAnd (slice_get (graph_commits layers) p)
-    (λ place. BeginsWithLongEntry place.0.kind (Some (graph_id_at layers p)) bytes)
+    (λ place. BeginsWithLongEntry place.0.kind object.Commit (Some (graph_id_at layers p)) bytes)
 
 -- why the bytes are not the stream of the positions from first up to end: the first entry that is refused, or what is left over
 abbrev pub IsStreamRefusal : List Layer → ℕ → ℕ → List ℕ → ObjectsError → Type 0

@@ -8,6 +8,7 @@ use Rattle.object_stream.specs.declared.error.ReadFailure.{ReadFailure}
 use Rattle.object_stream.specs.declared.error.ReadFailure.TheVariants as failure
 use Rattle.object_stream.specs.declared.error.StreamError.{StreamError}
 use Rattle.object_stream.specs.declared.error.StreamError.TheVariants as stream
+use Rattle.object_stream.specs.declared.object_type.ObjectType.TheVariants as object
 use Rattle.graph_objects.specs.Matching.{MatchesAt}
 use Rattle.graph_objects.specs.Stream.{graph_id_at, IsEntryErrorAt, IsLong, IsMismatchIn}
 use Rattle.graph_objects.specs.declared.error.ObjectsError.{ObjectsError}
@@ -17,7 +18,8 @@ use Rattle.graph_objects.specs.declared.error.ObjectsError.TheVariants.{Entry, M
 abbrev pub TakesEntry : List Layer → ℕ → Option (List ℕ) → Option (List ℕ) → Type 0
 TakesEntry layers p before now =
     BothKnown
-    (λ bytes next. (contents : List ℕ) × BeginsWithEntry (graph_id_at layers p) bytes contents next × MatchesAt layers p contents)
+    (λ bytes next. (contents : List ℕ) × BeginsWithEntry object.Commit (graph_id_at layers p) bytes contents next
+    × MatchesAt layers p contents)
     before now
 
 -- why no entry of a position is taken from the bytes

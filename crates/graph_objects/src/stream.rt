@@ -10,7 +10,7 @@ use crate::ahead;
 use crate::commit::matches_commit;
 use crate::error::ObjectsError;
 use gix_commitgraph::{Graph, Position};
-use object_stream::{Buffer, StreamError, next_entry};
+use object_stream::{Buffer, ObjectType, StreamError, next_entry};
 use std::alloc::Global;
 use std::io::Read;
 
@@ -80,7 +80,7 @@ fn check_next<R: Read>(
     let commit = graph.commit_at(pos);
     let kind = graph.object_hash();
     let id = graph.id_at(pos).to_owned();
-    let entry = match next_entry(kind, Some(id), buffer, reader) {
+    let entry = match next_entry(kind, ObjectType::Commit, Some(id), buffer, reader) {
         Ok(entry) => entry,
         Err(error) => return Err(error_at(pos, error)),
     };

@@ -1,5 +1,5 @@
 pub mod LineLemmas
-pub mod CommitLineLemmas
+pub mod TypedLineLemmas
 pub mod OwnLineLemmas
 pub mod EntryLemmas
 pub mod TakingLemmas

@@ -1,5 +1,5 @@
 -- Bytes have one reading: one line, one entry, one reason why there is none.
-use Rattle.std.proofs.Common.{◌≡◌, ◌≢◌, ℕ, zero, suc, ◌*◌, ◌/◌, ◌<◌, ◌≤◌, ◌⊎◌, List, [], ◌∷◌, ◌++◌, length, take, get_or}
+use Rattle.std.proofs.Common.{◌≡◌, ◌≢◌, ℕ, zero, suc, ◌*◌, ◌/◌, ◌^◌, ◌<◌, ◌≤◌, ◌⊎◌, List, [], ◌∷◌, ◌++◌, length, take, get_or}
 use Rattle.std.proofs.Common.{refl, sym, ap, ◌∙◌, arith, inl, inr, subst, true, false, ⊎_elim, append_assoc, decimal}
 use Rattle.std.specs.Prelude.{All, Option, None, codes, nat_lt, if◌then◌else◌}
 use Rattle.std.specs.Int.{w32, byte_at, bytes_high_first, to_be_bytes}
@@ -19,15 +19,18 @@ use Rattle.gix_hash_core.specs.Kind.{id_len}
 use Rattle.gix_hash_core.specs.declared.kind.Kind.{Kind}
 use Rattle.gix_hash_core.specs.declared.kind.Kind.TheVariants.{Sha1, Sha256}
 use Rattle.gix_hash_core.proofs.DigestLemmas.{digest_is_sized}
-use Rattle.commit_objects.specs.Object.{object_id_of, object_of}
-use Rattle.object_stream.specs.BatchEntry.{line_of_commit, longest_line, HasNoFeed, IsLine, IsTail, IsObjectLine, BeginsWithEntry}
+use Rattle.object_stream.specs.TypedObject.{type_word, typed_id, typed_object}
+use Rattle.object_stream.specs.BatchEntry.{object_line, longest_line, HasNoFeed, IsLine, IsTail, IsObjectLine, BeginsWithEntry}
+use Rattle.object_stream.specs.BatchEntry.{type_and_size}
 use Rattle.object_stream.specs.NextEntry.{BeginsWithHead, IsEntryError, IsExpected}
 use Rattle.object_stream.specs.FoundEntry.{IsOtherLine}
 use Rattle.object_stream.specs.declared.error.EntryError.{EntryError}
 use Rattle.object_stream.specs.declared.error.EntryError.TheVariants as error
 use Rattle.object_stream.specs.declared.heading.Heading.{Heading}
 use Rattle.object_stream.specs.declared.heading.Heading.TheVariants as told
-use Rattle.object_stream.proofs.CommitLineLemmas.{encode_lower-lower, own-no_feed, length-own}
+use Rattle.object_stream.specs.declared.object_type.ObjectType.{ObjectType}
+use Rattle.object_stream.specs.declared.object_type.ObjectType.TheVariants.{Commit, Tree, Blob, Tag}
+use Rattle.object_stream.proofs.TypedLineLemmas.{encode_lower-lower, own-no_feed, length-own}
 
 -- where lines end
 feed_once : (a b x y : List ℕ) → HasNoFeed a → HasNoFeed b → a ++ 10 ∷ x ≡ b ++ 10 ∷ y → (a ≡ b) × (x ≡ y)
@@ -58,57 +61,42 @@ same_cut (c ∷ a) [] x y n e = absurd (omega (arith, n))
 same_cut (c ∷ a) (d ∷ b) x y n e = let more = same_cut a b x y (omega (arith, n)) (cc e) in (cc (more.0, e), more.1)
 
 -- what stands behind the id is one thing
-head_at : (xs ys : List ℕ) (k : ℕ) → xs ≡ ys → get_or xs k 0 ≡ get_or ys k 0
-head_at xs ys k e = ap (λ l. get_or l k 0) e
+letter : (xs ys : List ℕ) (k : ℕ) → xs ≡ ys → get_or xs k 0 ≡ get_or ys k 0
+letter xs ys k e = ap (λ l. get_or l k 0) e
 
-pub missing-commit : (size : ℕ) → codes " missing" ≢ codes " commit " ++ decimal size
-missing-commit size e = omega (arith, head_at (codes " missing") (codes " commit " ++ decimal size) 1 e)
+pub missing-typed : (type : ObjectType) (size : ℕ) → codes " missing" ≢ type_and_size type size
+missing-typed Commit size e = omega (arith, letter (codes " missing") (type_and_size Commit size) 1 e)
+missing-typed Tree size e = omega (arith, letter (codes " missing") (type_and_size Tree size) 1 e)
+missing-typed Blob size e = omega (arith, letter (codes " missing") (type_and_size Blob size) 1 e)
+missing-typed Tag size e = omega (arith, letter (codes " missing") (type_and_size Tag size) 1 e)
 
-tail-commit : (tail : List ℕ) (size : ℕ) → IsTail tail told.Other → tail ≢ codes " commit " ++ decimal size
-tail-commit tail size other e =
-    let n = other.0 in ⊎_elim
-    (λ (tree : tail ≡ codes " tree " ++ decimal n). omega (
-      arith,
-      head_at (codes " tree " ++ decimal n)
-          (codes " commit " ++ decimal size) 1 (sym tree ∙ e),
-    ))
-    (λ (others : (tail ≡ codes " blob " ++ decimal n) ⊎ (tail ≡ codes " tag " ++ decimal n)). ⊎_elim
-    (λ (blob : tail ≡ codes " blob " ++ decimal n). omega (
-      arith,
-      head_at (codes " blob " ++ decimal n)
-          (codes " commit " ++ decimal size) 1 (sym blob ∙ e),
-    ))
-    (λ (tag : tail ≡ codes " tag " ++ decimal n). omega (
-      arith,
-      head_at (codes " tag " ++ decimal n)
-          (codes " commit " ++ decimal size) 1 (sym tag ∙ e),
-    ))
-    others)
-    other.2
+sizes_once : (type : ObjectType) (m n : ℕ) → m < 2 ^ 64 → n < 2 ^ 64 → type_and_size type m ≡ type_and_size type n
+    → told.Object type m ≡ told.Object type n
+sizes_once type m n p q e =
+    ap (λ k. told.Object type k)
+    (decimal_injective m n p q (append_cancel_left (32 ∷ type_word type) (decimal m) (decimal n) e))
 
-tail-missing : (tail : List ℕ) → IsTail tail told.Other → tail ≢ codes " missing"
-tail-missing tail other e =
-    let n = other.0 in ⊎_elim
-    (λ (tree : tail ≡ codes " tree " ++ decimal n). omega (
-      arith,
-      head_at (codes " tree " ++ decimal n) (codes " missing")
-          1 (sym tree ∙ e),
-    ))
-    (λ (others : (tail ≡ codes " blob " ++ decimal n) ⊎ (tail ≡ codes " tag " ++ decimal n)). ⊎_elim
-    (λ (blob : tail ≡ codes " blob " ++ decimal n). omega (
-      arith,
-      head_at (codes " blob " ++ decimal n) (codes " missing")
-          1 (sym blob ∙ e),
-    ))
-    (λ (tag : tail ≡ codes " tag " ++ decimal n). omega (
-      arith,
-      head_at (codes " tag " ++ decimal n) (codes " missing") 1 (sym tag
-          ∙ e),
-    ))
-    others)
-    other.2
+-- two words with sizes are alike only for one type and one size
+typed_once : (s t : ObjectType) (m n : ℕ) → m < 2 ^ 64 → n < 2 ^ 64 → type_and_size s m ≡ type_and_size t n
+    → told.Object s m ≡ told.Object t n
+typed_once Commit Commit m n p q e = sizes_once Commit m n p q e
+typed_once Tree Tree m n p q e = sizes_once Tree m n p q e
+typed_once Blob Blob m n p q e = sizes_once Blob m n p q e
+typed_once Tag Tag m n p q e = sizes_once Tag m n p q e
+typed_once Commit Tree m n p q e = absurd (omega (arith, letter (type_and_size Commit m) (type_and_size Tree n) 1 e))
+typed_once Commit Blob m n p q e = absurd (omega (arith, letter (type_and_size Commit m) (type_and_size Blob n) 1 e))
+typed_once Commit Tag m n p q e = absurd (omega (arith, letter (type_and_size Commit m) (type_and_size Tag n) 1 e))
+typed_once Tree Commit m n p q e = absurd (omega (arith, letter (type_and_size Tree m) (type_and_size Commit n) 1 e))
+typed_once Tree Blob m n p q e = absurd (omega (arith, letter (type_and_size Tree m) (type_and_size Blob n) 1 e))
+typed_once Tree Tag m n p q e = absurd (omega (arith, letter (type_and_size Tree m) (type_and_size Tag n) 2 e))
+typed_once Blob Commit m n p q e = absurd (omega (arith, letter (type_and_size Blob m) (type_and_size Commit n) 1 e))
+typed_once Blob Tree m n p q e = absurd (omega (arith, letter (type_and_size Blob m) (type_and_size Tree n) 1 e))
+typed_once Blob Tag m n p q e = absurd (omega (arith, letter (type_and_size Blob m) (type_and_size Tag n) 1 e))
+typed_once Tag Commit m n p q e = absurd (omega (arith, letter (type_and_size Tag m) (type_and_size Commit n) 1 e))
+typed_once Tag Tree m n p q e = absurd (omega (arith, letter (type_and_size Tag m) (type_and_size Tree n) 2 e))
+typed_once Tag Blob m n p q e = absurd (omega (arith, letter (type_and_size Tag m) (type_and_size Blob n) 1 e))
 
--- the ids of commits are bytes, at most 32 of them
+-- the ids of objects are bytes, at most 32 of them
 abbrev pub AreBytes : List ℕ → Type 0
 AreBytes xs = All (λ b. b < 256) xs
 
@@ -145,22 +133,15 @@ id_len-short : (kind : Kind) → id_len kind ≤ 32
 id_len-short Sha1 = omega arith
 id_len-short Sha256 = omega arith
 
-pub own-sized : (kind : Kind) (contents : List ℕ) → length (object_id_of kind contents) ≡ id_len kind
-own-sized kind contents = digest_is_sized kind (object_of contents)
+pub own-sized : (kind : Kind) (type : ObjectType) (contents : List ℕ) → length (typed_id kind type contents) ≡ id_len kind
+own-sized kind type contents = digest_is_sized kind (typed_object type contents)
 
 -- what stands behind an id says one thing
 tail_once : (tail : List ℕ) (a b : Heading) → IsTail tail a → IsTail tail b → a ≡ b
 tail_once tail told.Missing told.Missing one two = refl
-tail_once tail told.Missing (told.Commit n) one two = absurd (missing-commit n (sym one ∙ two.1))
-tail_once tail told.Missing told.Other one two = absurd (tail-missing tail two one)
-tail_once tail (told.Commit m) told.Missing one two = absurd (missing-commit m (sym two ∙ one.1))
-tail_once tail (told.Commit m) (told.Commit n) one two =
-    ap (λ k. told.Commit k)
-    (decimal_injective m n one.0 two.0 (append_cancel_left (codes " commit ") (decimal m) (decimal n) (sym one.1 ∙ two.1)))
-tail_once tail (told.Commit m) told.Other one two = absurd (tail-commit tail m two one.1)
-tail_once tail told.Other told.Missing one two = absurd (tail-missing tail one two)
-tail_once tail told.Other (told.Commit n) one two = absurd (tail-commit tail n one two.1)
-tail_once tail told.Other told.Other one two = refl
+tail_once tail told.Missing (told.Object t n) one two = absurd (missing-typed t n (sym one ∙ two.1))
+tail_once tail (told.Object s m) told.Missing one two = absurd (missing-typed s m (sym two ∙ one.1))
+tail_once tail (told.Object s m) (told.Object t n) one two = typed_once s t m n one.0 two.0 (sym one.1 ∙ two.1)
 
 -- a line has one id, and says one thing of it
 pub object_once : (n : ℕ) (line one other : List ℕ) (a b : Heading) → IsObjectLine n line one a → IsObjectLine n line other b
@@ -169,92 +150,100 @@ object_once n line one other a b first second =
     let same = same_cut one other first.tail second.tail (first.sized ∙ sym second.sized) (sym first.whole ∙ second.whole) in
     (same.0, tail_once second.tail a b (subst (λ t. IsTail t a) same.1 first.is_tail) second.is_tail)
 
-abbrev commit_size : Heading → ℕ
-commit_size (told.Commit size) = size
-commit_size heading = 0
+abbrev told_size : Heading → ℕ
+told_size (told.Object type size) = size
+told_size told.Missing = 0
 
--- so bytes begin with the line of one commit
-pub head_once : (kind : Kind) (expected : Option (List ℕ)) (bytes one other : List ℕ) (m n : ℕ) (next end : List ℕ)
-    → BeginsWithHead kind expected bytes one (told.Commit m) next → BeginsWithHead kind expected bytes other (told.Commit n) end
+abbrev told_type : Heading → ObjectType
+told_type (told.Object type size) = type
+told_type told.Missing = Commit
+
+-- so bytes begin with the line of one object
+pub head_once : (kind : Kind) (type : ObjectType) (expected : Option (List ℕ)) (bytes one other : List ℕ) (m n : ℕ)
+    (next end : List ℕ)
+    → BeginsWithHead kind expected bytes one (told.Object type m) next
+    → BeginsWithHead kind expected bytes other (told.Object type n) end
     → (one ≡ other) × (m ≡ n) × (next ≡ end)
-head_once kind expected bytes one other m n next end first second =
+head_once kind type expected bytes one other m n next end first second =
     let line = line_once bytes first.0.0 second.0.0 next end first.0.1 second.0.1 in
-    let there : IsObjectLine (id_len kind) second.0.0 one (told.Commit m) =
-    subst (λ l. IsObjectLine (id_len kind) l one (told.Commit m)) line.0 first.0.2 in
-    let same = object_once (id_len kind) second.0.0 one other (told.Commit m) (told.Commit n) there second.0.2 in
-    (same.0, ap commit_size same.1, line.1)
+    let there : IsObjectLine (id_len kind) second.0.0 one (told.Object type m) =
+    subst (λ l. IsObjectLine (id_len kind) l one (told.Object type m)) line.0 first.0.2 in
+    let same = object_once (id_len kind) second.0.0 one other (told.Object type m) (told.Object type n) there second.0.2 in
+    (same.0, ap told_size same.1, line.1)
 
 -- a line is another for one reason
-other_once : (kind : Kind) (expected : Option (List ℕ)) (line : List ℕ) (e f : EntryError) → IsOtherLine kind expected line e
-    → IsOtherLine kind expected line f → e ≡ f
-other_once kind expected line error.NoEntry error.NoEntry one two = refl
-other_once kind expected line error.OtherId error.OtherId one two = refl
-other_once kind expected line error.Missing error.Missing one two = refl
-other_once kind expected line error.OtherType error.OtherType one two = refl
-other_once kind expected line error.NoEntry error.OtherId one two = absurd (one two.0 two.1 two.2)
-other_once kind expected line error.NoEntry error.Missing one two = absurd (one two.0 told.Missing two.1)
-other_once kind expected line error.NoEntry error.OtherType one two = absurd (one two.0 told.Other two.1)
-other_once kind expected line error.OtherId error.NoEntry one two = absurd (two one.0 one.1 one.2)
-other_once kind expected line error.Missing error.NoEntry one two = absurd (two one.0 told.Missing one.1)
-other_once kind expected line error.OtherType error.NoEntry one two = absurd (two one.0 told.Other one.1)
-other_once kind expected line error.OtherId error.Missing one two =
+other_once : (kind : Kind) (type : ObjectType) (expected : Option (List ℕ)) (line : List ℕ) (e f : EntryError)
+    → IsOtherLine kind type expected line e
+    → IsOtherLine kind type expected line f → e ≡ f
+other_once kind type expected line error.NoEntry error.NoEntry one two = refl
+other_once kind type expected line error.OtherId error.OtherId one two = refl
+other_once kind type expected line error.Missing error.Missing one two = refl
+other_once kind type expected line error.OtherType error.OtherType one two = refl
+other_once kind type expected line error.NoEntry error.OtherId one two = absurd (one two.0 two.1 two.2)
+other_once kind type expected line error.NoEntry error.Missing one two = absurd (one two.0 told.Missing two.1)
+other_once kind type expected line error.NoEntry error.OtherType one two = absurd (one two.0 (told.Object two.1 two.2) two.3)
+other_once kind type expected line error.OtherId error.NoEntry one two = absurd (two one.0 one.1 one.2)
+other_once kind type expected line error.Missing error.NoEntry one two = absurd (two one.0 told.Missing one.1)
+other_once kind type expected line error.OtherType error.NoEntry one two = absurd (two one.0 (told.Object one.1 one.2) one.3)
+other_once kind type expected line error.OtherId error.Missing one two =
     let same = object_once (id_len kind) line two.0 one.0 told.Missing one.1 two.1 one.2 in
     absurd (one.3 (subst (IsExpected expected) same.0 two.2))
-other_once kind expected line error.OtherId error.OtherType one two =
-    let same = object_once (id_len kind) line two.0 one.0 told.Other one.1 two.1 one.2 in
-    absurd (one.3 (subst (IsExpected expected) same.0 two.2))
-other_once kind expected line error.Missing error.OtherId one two =
+other_once kind type expected line error.OtherId error.OtherType one two =
+    let same = object_once (id_len kind) line two.0 one.0 (told.Object two.1 two.2) one.1 two.3 one.2 in
+    absurd (one.3 (subst (IsExpected expected) same.0 two.4))
+other_once kind type expected line error.Missing error.OtherId one two =
     let same = object_once (id_len kind) line one.0 two.0 told.Missing two.1 one.1 two.2 in
     absurd (two.3 (subst (IsExpected expected) same.0 one.2))
-other_once kind expected line error.OtherType error.OtherId one two =
-    let same = object_once (id_len kind) line one.0 two.0 told.Other two.1 one.1 two.2 in
-    absurd (two.3 (subst (IsExpected expected) same.0 one.2))
-other_once kind expected line error.Missing error.OtherType one two =
-    absurd (cc (object_once (id_len kind) line one.0 two.0 told.Missing told.Other one.1 two.1).1)
-other_once kind expected line error.OtherType error.Missing one two =
-    absurd (cc (object_once (id_len kind) line one.0 two.0 told.Other told.Missing one.1 two.1).1)
-other_once kind expected line error.Ends f one two = absurd one
-other_once kind expected line error.OtherContents f one two = absurd one
-other_once kind expected line e error.Ends one two = absurd two
-other_once kind expected line e error.OtherContents one two = absurd two
+other_once kind type expected line error.OtherType error.OtherId one two =
+    let same = object_once (id_len kind) line one.0 two.0 (told.Object one.1 one.2) two.1 one.3 two.2 in
+    absurd (two.3 (subst (IsExpected expected) same.0 one.4))
+other_once kind type expected line error.Missing error.OtherType one two =
+    absurd (cc (object_once (id_len kind) line one.0 two.0 told.Missing (told.Object two.1 two.2) one.1 two.3).1)
+other_once kind type expected line error.OtherType error.Missing one two =
+    absurd (cc (object_once (id_len kind) line one.0 two.0 (told.Object one.1 one.2) told.Missing one.3 two.1).1)
+other_once kind type expected line error.Ends f one two = absurd one
+other_once kind type expected line error.OtherContents f one two = absurd one
+other_once kind type expected line e error.Ends one two = absurd two
+other_once kind type expected line e error.OtherContents one two = absurd two
 
--- the line of a commit that is expected is no other
-not_other : (kind : Kind) (expected : Option (List ℕ)) (line digits : List ℕ) (size : ℕ) (e : EntryError)
-    → IsObjectLine (id_len kind) line digits (told.Commit size) → IsExpected expected digits
-    → ¬ (IsOtherLine kind expected line e)
-not_other kind expected line digits size error.Ends is wanted other = other
-not_other kind expected line digits size error.NoEntry is wanted other = other digits (told.Commit size) is
-not_other kind expected line digits size error.OtherId is wanted other =
-    let same = object_once (id_len kind) line digits other.0 (told.Commit size) other.1 is other.2 in
+-- the line of an object that is expected is no other
+not_other : (kind : Kind) (type : ObjectType) (expected : Option (List ℕ)) (line digits : List ℕ) (size : ℕ) (e : EntryError)
+    → IsObjectLine (id_len kind) line digits (told.Object type size) → IsExpected expected digits
+    → ¬ (IsOtherLine kind type expected line e)
+not_other kind type expected line digits size error.Ends is wanted other = other
+not_other kind type expected line digits size error.NoEntry is wanted other = other digits (told.Object type size) is
+not_other kind type expected line digits size error.OtherId is wanted other =
+    let same = object_once (id_len kind) line digits other.0 (told.Object type size) other.1 is other.2 in
     other.3 (subst (IsExpected expected) same.0 wanted)
-not_other kind expected line digits size error.Missing is wanted other =
-    absurd (cc (object_once (id_len kind) line digits other.0 (told.Commit size) told.Missing is other.1).1)
-not_other kind expected line digits size error.OtherType is wanted other =
-    absurd (cc (object_once (id_len kind) line digits other.0 (told.Commit size) told.Other is other.1).1)
-not_other kind expected line digits size error.OtherContents is wanted other = other
+not_other kind type expected line digits size error.Missing is wanted other =
+    absurd (cc (object_once (id_len kind) line digits other.0 (told.Object type size) told.Missing is other.1).1)
+not_other kind type expected line digits size error.OtherType is wanted other =
+    let same = object_once (id_len kind) line digits other.0 (told.Object type size) (told.Object other.1 other.2) is other.3 in
+    absurd (other.5 (sym (ap told_type same.1)))
+not_other kind type expected line digits size error.OtherContents is wanted other = other
 
 -- how far the bytes of an entry can be read
-module _ (kind : Kind) (expected : Option (List ℕ)) (bytes : List ℕ) where
+module _ (kind : Kind) (type : ObjectType) (expected : Option (List ℕ)) (bytes : List ℕ) where
   abbrev NoLine : EntryError → Type 0
   NoLine e = HasNoFeed (take longest_line bytes)
       × (e ≡ (if nat_lt (length bytes) longest_line then error.Ends else error.NoEntry))
 
   abbrev OtherLine : EntryError → Type 0
-  OtherLine e = (line : List ℕ) × (next : List ℕ) × IsLine bytes line next × IsOtherLine kind expected line e
+  OtherLine e = (line : List ℕ) × (next : List ℕ) × IsLine bytes line next × IsOtherLine kind type expected line e
 
   abbrev IsBad : List ℕ → ℕ → List ℕ → EntryError → Type 0
   IsBad digits size next error.Ends = length next ≤ size
   IsBad digits size next error.NoEntry = (size < length next) × (get_or next size 0 ≢ 10)
   IsBad digits size next error.OtherContents =
       (contents : List ℕ) × (rest : List ℕ) × (length contents ≡ size) × (next ≡ contents ++ 10 ∷ rest)
-      × (digits ≢ encode_lower (object_id_of kind contents))
+      × (digits ≢ encode_lower (typed_id kind type contents))
   IsBad digits size next e = ⊥
 
   abbrev BadEntry : EntryError → Type 0
   BadEntry e = (digits : List ℕ) × (next : List ℕ) × (size : ℕ)
-      × BeginsWithHead kind expected bytes digits (told.Commit size) next × IsBad digits size next e
+      × BeginsWithHead kind expected bytes digits (told.Object type size) next × IsBad digits size next e
 
-  stage : (e : EntryError) → IsEntryError kind expected bytes e → NoLine e ⊎ (OtherLine e ⊎ BadEntry e)
+  stage : (e : EntryError) → IsEntryError kind type expected bytes e → NoLine e ⊎ (OtherLine e ⊎ BadEntry e)
   stage error.Ends refused = ⊎_elim
       (λ (none : HasNoFeed bytes × (length bytes < longest_line)).
       let test : nat_lt (length bytes) 93 ≡ true = lt-ltb (length bytes) 93 none.1 in
@@ -266,11 +255,11 @@ module _ (kind : Kind) (expected : Option (List ℕ)) (bytes : List ℕ) where
       let test : nat_lt (length bytes) 93 ≡ false = le-ltb (length bytes) 93 none.1 in
       inl (none.0, rw test refl))
       (λ (others : OtherLine error.NoEntry
-      ⊎ ((digits : List ℕ) × (next : List ℕ) × (size : ℕ) × BeginsWithHead kind expected bytes digits (told.Commit size) next
+      ⊎ ((digits : List ℕ) × (next : List ℕ) × (size : ℕ) × BeginsWithHead kind expected bytes digits (told.Object type size) next
       × (size < length next) × (get_or next size 0 ≢ 10))). ⊎_elim
       (λ (other : OtherLine error.NoEntry). inr (inl other))
       (λ (feed : (digits : List ℕ) × (next : List ℕ) × (size : ℕ)
-      × BeginsWithHead kind expected bytes digits (told.Commit size) next
+      × BeginsWithHead kind expected bytes digits (told.Object type size) next
       × (size < length next) × (get_or next size 0 ≢ 10)).
       inr (inr (feed.0, feed.1, feed.2, feed.3, (feed.4, feed.5))))
       others)
@@ -279,7 +268,8 @@ module _ (kind : Kind) (expected : Option (List ℕ)) (bytes : List ℕ) where
   stage error.Missing refused =
       inr (inl (refused.2.0.0, refused.1, refused.2.0.1, (refused.0, refused.2.0.2, refused.2.1)))
   stage error.OtherType refused =
-      inr (inl (refused.2.0.0, refused.1, refused.2.0.1, (refused.0, refused.2.0.2, refused.2.1)))
+      let head = refused.4 in
+      inr (inl (head.0.0, refused.1, head.0.1, (refused.0, refused.2, refused.3, head.0.2, head.1, refused.5)))
   stage error.OtherContents refused = inr (inr (
     refused.0,
     refused.1 ++ 10 ∷ refused.2,
@@ -314,9 +304,11 @@ module _ (kind : Kind) (expected : Option (List ℕ)) (bytes : List ℕ) where
   line_or_head e f other bad =
       let head = bad.3 in
       let same = line_once bytes other.0 head.0.0 other.1 bad.1 other.2 head.0.1 in
-      not_other kind expected head.0.0 bad.0 bad.2 e head.0.2 head.1 (subst (λ l. IsOtherLine kind expected l e) same.0 other.3)
+      not_other kind type expected head.0.0 bad.0 bad.2 e head.0.2 head.1
+      (subst (λ l. IsOtherLine kind type expected l e) same.0 other.3)
 
-  pub entry_error_once : (e f : EntryError) → IsEntryError kind expected bytes e → IsEntryError kind expected bytes f → e ≡ f
+  pub entry_error_once : (e f : EntryError) → IsEntryError kind type expected bytes e → IsEntryError kind type expected bytes f
+      → e ≡ f
   entry_error_once e f one two = ⊎_elim
       (λ (a : NoLine e). ⊎_elim
       (λ (b : NoLine f). a.1 ∙ sym b.1)
@@ -331,7 +323,7 @@ module _ (kind : Kind) (expected : Option (List ℕ)) (bytes : List ℕ) where
       (λ (others : OtherLine f ⊎ BadEntry f). ⊎_elim
       (λ (b : OtherLine f).
       let same = line_once bytes b.0 a.0 b.1 a.1 b.2 a.2 in
-      other_once kind expected a.0 e f a.3 (subst (λ l. IsOtherLine kind expected l f) same.0 b.3))
+      other_once kind type expected a.0 e f a.3 (subst (λ l. IsOtherLine kind type expected l f) same.0 b.3))
       (λ (b : BadEntry f). absurd (line_or_head e f a b))
       others)
       (stage f two))
@@ -340,7 +332,7 @@ module _ (kind : Kind) (expected : Option (List ℕ)) (bytes : List ℕ) where
       (λ (others : OtherLine f ⊎ BadEntry f). ⊎_elim
       (λ (b : OtherLine f). absurd (line_or_head f e b a))
       (λ (b : BadEntry f).
-      let same = head_once kind expected bytes b.0 a.0 b.2 a.2 b.1 a.1 b.3 a.3 in
+      let same = head_once kind type expected bytes b.0 a.0 b.2 a.2 b.1 a.1 b.3 a.3 in
       let bad : IsBad a.0 a.2 a.1 f =
       subst (λ d. IsBad d a.2 a.1 f) same.0 (subst (λ n. IsBad b.0 n a.1 f) same.1 (subst (λ l. IsBad b.0 b.2 l f) same.2 b.4)) in
       bad_once a.0 a.2 a.1 e f a.4 bad)
@@ -350,35 +342,35 @@ module _ (kind : Kind) (expected : Option (List ℕ)) (bytes : List ℕ) where
       (stage e one)
 
 -- a whole entry whose id is that of its contents
-module _ (kind : Kind) (expected : Option (List ℕ)) (bytes contents next : List ℕ)
-    (entry : BeginsWithEntry (object_id_of kind contents) bytes contents next)
-    (wanted : IsExpected expected (encode_lower (object_id_of kind contents))) where
+module _ (kind : Kind) (type : ObjectType) (expected : Option (List ℕ)) (bytes contents next : List ℕ)
+    (entry : BeginsWithEntry type (typed_id kind type contents) bytes contents next)
+    (wanted : IsExpected expected (encode_lower (typed_id kind type contents))) where
   abbrev digits : List ℕ
-  digits = encode_lower (object_id_of kind contents)
+  digits = encode_lower (typed_id kind type contents)
 
   abbrev whole : List ℕ
   whole = contents ++ 10 ∷ next
 
-  pub entry_head : BeginsWithHead kind expected bytes digits (told.Commit (length contents)) whole
+  pub entry_head : BeginsWithHead kind expected bytes digits (told.Object type (length contents)) whole
   entry_head =
-      let id = object_id_of kind contents in
+      let id = typed_id kind type contents in
       let size = length contents in
       let sized : length digits ≡ 2 * id_len kind =
-      length-encode_with lower_digits id ∙ ap (λ n. 2 * n) (own-sized kind contents) in
+      length-encode_with lower_digits id ∙ ap (λ n. 2 * n) (own-sized kind type contents) in
       let short : length digits ≤ 64 = omega (arith, sized, id_len-short kind) in
-      let lower = encode_lower-lower id (digest-bytes kind (object_of contents)) in (
+      let lower = encode_lower-lower id (digest-bytes kind (typed_object type contents)) in (
         (
-          line_of_commit id size,
+          object_line type id size,
           record {
-            whole = entry.whole ∙ append_assoc (line_of_commit id size) (10 ∷ (contents ++ 10 ∷ [])) next
-                ∙ ap (λ l. line_of_commit id size ++ 10 ∷ l) (append_assoc contents (10 ∷ []) next);
-            one = own-no_feed digits size lower entry.fits;
-            short = length-own digits size short entry.fits;
+            whole = entry.whole ∙ append_assoc (object_line type id size) (10 ∷ (contents ++ 10 ∷ [])) next
+                ∙ ap (λ l. object_line type id size ++ 10 ∷ l) (append_assoc contents (10 ∷ []) next);
+            one = own-no_feed type digits size lower entry.fits;
+            short = length-own type digits size short entry.fits;
           },
           record {
             sized = sized;
             lower = lower;
-            tail = codes " commit " ++ decimal size;
+            tail = type_and_size type size;
             whole = refl;
             is_tail = (entry.fits, refl);
           },
@@ -387,41 +379,42 @@ module _ (kind : Kind) (expected : Option (List ℕ)) (bytes contents next : Lis
       )
 
   -- is not refused
-  pub entry_not_refused : (e : EntryError) → ¬ (IsEntryError kind expected bytes e)
+  pub entry_not_refused : (e : EntryError) → ¬ (IsEntryError kind type expected bytes e)
   entry_not_refused e refused = ⊎_elim
-      (λ (none : NoLine kind expected bytes e). no_line bytes entry_head.0.0 whole none.0 entry_head.0.1)
-      (λ (others : OtherLine kind expected bytes e ⊎ BadEntry kind expected bytes e). ⊎_elim
-      (λ (other : OtherLine kind expected bytes e).
+      (λ (none : NoLine kind type expected bytes e). no_line bytes entry_head.0.0 whole none.0 entry_head.0.1)
+      (λ (others : OtherLine kind type expected bytes e ⊎ BadEntry kind type expected bytes e). ⊎_elim
+      (λ (other : OtherLine kind type expected bytes e).
       let same = line_once bytes other.0 entry_head.0.0 other.1 whole other.2 entry_head.0.1 in
-      not_other kind expected entry_head.0.0 digits (length contents) e entry_head.0.2 entry_head.1
-      (subst (λ l. IsOtherLine kind expected l e) same.0 other.3))
-      (λ (bad : BadEntry kind expected bytes e).
-      let same = head_once kind expected bytes bad.0 digits bad.2 (length contents) bad.1 whole bad.3 entry_head in
+      not_other kind type expected entry_head.0.0 digits (length contents) e entry_head.0.2 entry_head.1
+      (subst (λ l. IsOtherLine kind type expected l e) same.0 other.3))
+      (λ (bad : BadEntry kind type expected bytes e).
+      let same = head_once kind type expected bytes bad.0 digits bad.2 (length contents) bad.1 whole bad.3 entry_head in
       not_bad e
-      (subst (λ d. IsBad kind expected bytes d (length contents) whole e) same.0
-      (subst (λ n. IsBad kind expected bytes bad.0 n whole e) same.1
-      (subst (λ l. IsBad kind expected bytes bad.0 bad.2 l e) same.2 bad.4))))
+      (subst (λ d. IsBad kind type expected bytes d (length contents) whole e) same.0
+      (subst (λ n. IsBad kind type expected bytes bad.0 n whole e) same.1
+      (subst (λ l. IsBad kind type expected bytes bad.0 bad.2 l e) same.2 bad.4))))
       others)
-      (stage kind expected bytes e refused)
+      (stage kind type expected bytes e refused)
     where
-      not_bad : (e : EntryError) → ¬ (IsBad kind expected bytes digits (length contents) whole e)
+      not_bad : (e : EntryError) → ¬ (IsBad kind type expected bytes digits (length contents) whole e)
       not_bad error.Ends bad = omega (arith, bad, length-append contents (10 ∷ next))
       not_bad error.NoEntry bad = bad.1 (get_or_at contents 10 next 0 (length contents) refl)
       not_bad error.OtherContents bad =
           let cut = same_cut bad.0 contents (10 ∷ bad.1) (10 ∷ next) bad.2 (sym bad.3) in
-          bad.4 (sym (ap (λ c. encode_lower (object_id_of kind c)) cut.0))
+          bad.4 (sym (ap (λ c. encode_lower (typed_id kind type c)) cut.0))
       not_bad error.OtherId bad = bad
       not_bad error.Missing bad = bad
       not_bad error.OtherType bad = bad
 
 -- so entries at the front are one
-pub entry_once : (kind : Kind) (bytes contents other next end : List ℕ)
-    → BeginsWithEntry (object_id_of kind contents) bytes contents next
-    → BeginsWithEntry (object_id_of kind other) bytes other end → (contents ≡ other) × (next ≡ end)
-entry_once kind bytes contents other next end one two =
-    let first = entry_head kind None bytes contents next one tt in
-    let second = entry_head kind None bytes other end two tt in
-    let head = head_once kind None bytes (encode_lower (object_id_of kind contents)) (encode_lower (object_id_of kind other))
+pub entry_once : (kind : Kind) (type : ObjectType) (bytes contents other next end : List ℕ)
+    → BeginsWithEntry type (typed_id kind type contents) bytes contents next
+    → BeginsWithEntry type (typed_id kind type other) bytes other end → (contents ≡ other) × (next ≡ end)
+entry_once kind type bytes contents other next end one two =
+    let first = entry_head kind type None bytes contents next one tt in
+    let second = entry_head kind type None bytes other end two tt in
+    let head = head_once kind type None bytes (encode_lower (typed_id kind type contents))
+    (encode_lower (typed_id kind type other))
     (length contents) (length other) (contents ++ 10 ∷ next) (other ++ 10 ∷ end) first second in
     let cut = same_cut contents other (10 ∷ next) (10 ∷ end) head.1 head.2 in
     (cut.0, cc cut.1)

@@ -1,20 +1,21 @@
--- The line of a commit that is expected, read in one go.
+-- The line of an object that is expected, read in one go.
 use Rattle.std.proofs.Common.{◌≡◌, ◌⊎◌, ℕ, ◌+◌, ◌*◌, ◌-◌, ◌/◌, ◌%◌, ◌^◌, ◌<◌, ◌≤◌, List, [], ◌∷◌, ◌++◌, length, take, drop}
 use Rattle.std.proofs.Common.{get_or, decimal, refl, sym, ap, ◌∙◌, arith, inl, inr, append_assoc, take-append-drop, add-one}
 use Rattle.std.proofs.lemmas.Fmt.{decimal_digit, decimal_step}
 use Rattle.std.proofs.lemmas.Grind.{common_steps}
 use Rattle.std.proofs.lemmas.List.{length-append, length-take-le}
 use Rattle.std.proofs.Math.Seq.{drop-cons}
-use Rattle.std.specs.Prelude.{codes}
+use Rattle.object_stream.specs.TypedObject.{type_word}
 use Rattle.std.specs.List.{AllPass, IsSplitAt}
 use Rattle.gix_hash_core.specs.Kind.{id_len}
 use Rattle.gix_hash_core.specs.declared.kind.Kind.{Kind}
 use Rattle.gix_hash_core.specs.declared.kind.Kind.TheVariants.{Sha1, Sha256}
-use Rattle.object_stream.specs.BatchEntry.{is_lower_digit}
+use Rattle.object_stream.specs.BatchEntry.{is_lower_digit, type_and_size}
 use Rattle.object_stream.specs.NextEntry.{BeginsWithObject}
-use Rattle.object_stream.specs.FoundEntry.{FindsCommit}
+use Rattle.object_stream.specs.FoundEntry.{FindsObject}
 use Rattle.object_stream.specs.declared.heading.Heading.TheVariants as told
-use Rattle.object_stream.proofs.CommitLineLemmas.{length-own, own-no_feed}
+use Rattle.object_stream.specs.declared.object_type.ObjectType.{ObjectType}
+use Rattle.object_stream.proofs.TypedLineLemmas.{length-own, own-no_feed}
 use Rattle.object_stream.proofs.LineLemmas.{put_together}
 
 -- the number that was read of so many digits: none yet, or what they are in decimal
@@ -77,24 +78,26 @@ id_len-short Sha1 = omega arith
 id_len-short Sha256 = omega arith
 
 -- the parts of the line, put together
-pub own_found : (kind : Kind) (n : ℕ) (bytes digits tail text next : List ℕ) (count size : ℕ) → n ≡ id_len kind
-    → IsSplitAt bytes (2 * n) digits tail → AllPass is_lower_digit digits → tail ≡ codes " commit " ++ text
+pub own_found : (kind : Kind) (type : ObjectType) (n : ℕ) (bytes digits tail word text next : List ℕ) (wide count size : ℕ)
+    → n ≡ id_len kind
+    → IsSplitAt bytes (2 * n) digits tail → AllPass is_lower_digit digits → word ≡ 32 ∷ type_word type
+    → wide ≡ length word → tail ≡ word ++ text
     → text ≡ decimal size ++ 10 ∷ next → size < 2 ^ 64 → count ≡ length (decimal size)
-    → FindsCommit kind bytes (2 * n + 8 + count) size
-own_found kind n bytes digits tail text next count size sized split lower word number fits counted =
-    let line = digits ++ (codes " commit " ++ decimal size) in
+    → FindsObject kind type bytes (2 * n + wide + count) size
+own_found kind type n bytes digits tail word text next wide count size sized split lower spaced width behind number fits counted =
+    let line = digits ++ type_and_size type size in
     let twice : length digits ≡ 2 * id_len kind = grind (arith, split, sized) in
     let short : length digits ≤ 64 = omega (arith, twice, id_len-short kind) in
     let front : take (2 * id_len kind) bytes ≡ digits = ap (λ k. take (2 * k) bytes) (sym sized) ∙ sym split.1 in
     let whole : bytes ≡ line ++ 10 ∷ next =
     sym (put_together _ bytes digits tail split)
-    ∙ ap (λ l. digits ++ l) (word ∙ ap (λ l. codes " commit " ++ l) number
-    ∙ sym (append_assoc (codes " commit ") (decimal size) (10 ∷ next)))
-    ∙ sym (append_assoc digits (codes " commit " ++ decimal size) (10 ∷ next)) in
-    let head : BeginsWithObject kind bytes digits (told.Commit size) next = (
+    ∙ ap (λ l. digits ++ l) (behind ∙ ap (λ w. w ++ text) spaced ∙ ap (λ l. 32 ∷ (type_word type ++ l)) number
+    ∙ ap (λ l. 32 ∷ l) (sym (append_assoc (type_word type) (decimal size) (10 ∷ next))))
+    ∙ sym (append_assoc digits (type_and_size type size) (10 ∷ next)) in
+    let head : BeginsWithObject kind bytes digits (told.Object type size) next = (
       line,
-      record { whole = whole; one = own-no_feed digits size lower fits; short = length-own digits size short fits },
-      record { sized = twice; lower = lower; tail = codes " commit " ++ decimal size; whole = refl; is_tail = (fits, refl) },
+      record { whole = whole; one = own-no_feed type digits size lower fits; short = length-own type digits size short fits },
+      record { sized = twice; lower = lower; tail = type_and_size type size; whole = refl; is_tail = (fits, refl) },
     ) in (
       next,
       rw front head,
@@ -102,9 +105,11 @@ own_found kind n bytes digits tail text next count size sized split lower word n
         arith,
         ap length whole,
         length-append line (10 ∷ next),
-        length-append digits (codes " commit " ++ decimal size),
-        length-append (codes " commit ") (decimal size),
+        length-append digits (type_and_size type size),
+        length-append (type_word type) (decimal size),
         twice,
+        width,
+        ap length spaced,
         sized,
         counted,
       ),

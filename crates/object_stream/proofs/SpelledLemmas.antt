@@ -8,7 +8,7 @@ use Rattle.hex.proofs.HexLemmas.{decode_of-encode_lower, decode_of-ok, decode_of
 use Rattle.gix_hash_core.specs.Hexadecimal.{SpellsId}
 use Rattle.object_stream.specs.BatchEntry.{is_lower_digit}
 use Rattle.object_stream.specs.NextEntry.{IsExpected}
-use Rattle.object_stream.proofs.CommitLineLemmas.{encode_lower-lower}
+use Rattle.object_stream.proofs.TypedLineLemmas.{encode_lower-lower}
 
 spelled_bytes : (text id : List ℕ) → SpellsId text id → IsBytes id
 spelled_bytes text id spelled = (decode_of-ok text id spelled.1).3

@@ -1,20 +1,26 @@
 -- The entries of `git cat-file --batch` (git-cat-file, "BATCH OUTPUT"): a line with the id, the type and the size, and then the
 -- contents and a line feed; or a line that says that the object is missing.
-use Rattle.std.specs.Prelude.{◌≡◌, ◌≢◌, ◌⊎◌, ◌<◌, ◌≤◌, ◌^◌, ◌*◌, ◌||◌, ◌&&◌, nat_le, ℕ, Bool, List, [], ◌∷◌, ◌++◌, All}
+use Rattle.std.specs.Prelude.{◌≡◌, ◌≢◌, ◌<◌, ◌≤◌, ◌^◌, ◌*◌, ◌||◌, ◌&&◌, nat_le, ℕ, Bool, List, [], ◌∷◌, ◌++◌, All}
 use Rattle.std.specs.Prelude.{length, take}
 use Rattle.std.specs.Prelude.{slice_index, codes, decimal}
 use Rattle.std.specs.List.{AllPass}
 use Rattle.hex.specs.Hex.{encode_lower}
+use Rattle.object_stream.specs.TypedObject.{type_word}
 use Rattle.object_stream.specs.declared.heading.Heading.{Heading}
-use Rattle.object_stream.specs.declared.heading.Heading.TheVariants.{Missing, Commit, Other}
+use Rattle.object_stream.specs.declared.heading.Heading.TheVariants.{Missing, Object}
+use Rattle.object_stream.specs.declared.object_type.ObjectType.{ObjectType}
 
--- the line of a commit with an id, and this many bytes
-abbrev pub line_of_commit : List ℕ → ℕ → List ℕ
-line_of_commit id size = encode_lower id ++ (codes " commit " ++ decimal size)
+-- what stands behind the id of an object of a type, and this many bytes
+abbrev pub type_and_size : ObjectType → ℕ → List ℕ
+type_and_size type size = 32 ∷ (type_word type ++ decimal size)
 
--- the entry of a commit
-abbrev pub commit_entry : List ℕ → List ℕ → List ℕ
-commit_entry id contents = line_of_commit id (length contents) ++ 10 ∷ (contents ++ 10 ∷ [])
+-- the line of an object of a type with an id, and this many bytes
+abbrev pub object_line : ObjectType → List ℕ → ℕ → List ℕ
+object_line type id size = encode_lower id ++ type_and_size type size
+
+-- the entry of an object
+abbrev pub object_entry : ObjectType → List ℕ → List ℕ → List ℕ
+object_entry type id contents = object_line type id (length contents) ++ 10 ∷ (contents ++ 10 ∷ [])
 
 -- how many bytes the longest line has, its line feed among them: the digits of an id of 32 bytes, a type and a size of 20 digits
 abbrev pub longest_line : ℕ
@@ -48,11 +54,7 @@ pub record IsLineEnd (bytes : List ℕ) (end : ℕ) : Type 0 where
 -- what may stand behind an id; sizes have 64 bits
 abbrev pub IsTail : List ℕ → Heading → Type 0
 IsTail tail Missing = tail ≡ codes " missing"
-IsTail tail (Commit size) = (size < 2 ^ 64) × (tail ≡ codes " commit " ++ decimal size)
-IsTail tail Other =
-    (size : ℕ) × (size < 2 ^ 64)
-    × ((tail ≡ codes " tree " ++ decimal size) ⊎ ((tail ≡ codes " blob " ++ decimal size)
-    ⊎ (tail ≡ codes " tag " ++ decimal size)))
+IsTail tail (Object type size) = (size < 2 ^ 64) × (tail ≡ type_and_size type size)
 
 abbrev pub is_lower_digit : ℕ → Bool
 is_lower_digit b = (nat_le 48 b && nat_le b 57) || (nat_le 97 b && nat_le b 102)
@@ -69,7 +71,7 @@ pub record IsObjectLine (n : ℕ) (line digits : List ℕ) (told : Heading) : Ty
 abbrev pub IsNoObjectLine : ℕ → List ℕ → Type 0
 IsNoObjectLine n line = (digits : List ℕ) (told : Heading) → ¬ IsObjectLine n line digits told
 
--- The bytes begin with the entry of a commit with this id and these contents, and this is next.
-pub record BeginsWithEntry (id bytes contents next : List ℕ) : Type 0 where
-  pub whole : bytes ≡ commit_entry id contents ++ next
+-- The bytes begin with the entry of an object of this type with this id and these contents, and this is next.
+pub record BeginsWithEntry (type : ObjectType) (id bytes contents next : List ℕ) : Type 0 where
+  pub whole : bytes ≡ object_entry type id contents ++ next
   pub fits : length contents < 2 ^ 64

@@ -2,3 +2,4 @@ pub mod BatchEntry
 pub mod FoundEntry
 pub mod NextEntry
 pub mod Reading
+pub mod TypedObject

@@ -1,10 +1,9 @@
--- Whether a stream goes on with the entry of a commit, of a certain one or of any, and why it does not (git-cat-file, "BATCH
--- OUTPUT").
+-- Whether a stream goes on with the entry of an object of a type, of a certain one or of any, and why it does not
+-- (git-cat-file, "BATCH OUTPUT").
 use Rattle.std.specs.Prelude.{◌≡◌, ◌≢◌, ◌⊎◌, ◌+◌, ◌<◌, ◌≤◌, ℕ, List, ◌∷◌, ◌++◌, Option, IfSome, length, slice_index, take, ⊤}
 use Rattle.hex.specs.Hex.{encode_lower}
 use Rattle.gix_hash_core.specs.Kind.{id_len}
 use Rattle.gix_hash_core.specs.declared.kind.Kind.{Kind}
-use Rattle.commit_objects.specs.Object.{object_id_of}
 use Rattle.object_stream.specs.BatchEntry.{BeginsWithLongLine, EndsInLine, IsLine, IsNoObjectLine, IsObjectLine}
 use Rattle.object_stream.specs.declared.error.EntryError.{EntryError}
 use Rattle.object_stream.specs.declared.error.EntryError.TheVariants.{Ends, NoEntry, OtherId, Missing, OtherType, OtherContents}
@@ -13,6 +12,8 @@ use Rattle.object_stream.specs.declared.error.StreamError.{StreamError}
 use Rattle.object_stream.specs.declared.error.StreamError.TheVariants.{Entry, Read}
 use Rattle.object_stream.specs.declared.heading.Heading.{Heading}
 use Rattle.object_stream.specs.declared.heading.Heading.TheVariants as heading
+use Rattle.object_stream.specs.declared.object_type.ObjectType.{ObjectType}
+use Rattle.object_stream.specs.TypedObject.{typed_id}
 
 -- the digits are those of the id that is expected, where one is
 abbrev pub IsExpected : Option (List ℕ) → List ℕ → Type 0
@@ -28,20 +29,21 @@ abbrev pub BeginsWithHead : Kind → Option (List ℕ) → List ℕ → List ℕ
 BeginsWithHead kind expected bytes digits told next =
     BeginsWithObject kind bytes digits told next × IsExpected expected digits
 
--- the bytes end within the entry: in its line, or in the contents of its commit
-abbrev pub EndsWithinEntry : Kind → Option (List ℕ) → List ℕ → Type 0
-EndsWithinEntry kind expected bytes =
+-- the bytes end within the entry: in its line, or in the contents of its object
+abbrev pub EndsWithinEntry : Kind → ObjectType → Option (List ℕ) → List ℕ → Type 0
+EndsWithinEntry kind type expected bytes =
     EndsInLine bytes
-    ⊎ ((digits next : List ℕ) × (size : ℕ) × BeginsWithHead kind expected bytes digits (heading.Commit size) next
+    ⊎ ((digits next : List ℕ) × (size : ℕ) × BeginsWithHead kind expected bytes digits (heading.Object type size) next
     × (length next ≤ size))
 
--- the bytes begin with no entry: with a long line; with the line of no object; or with the line of a commit that is expected, and
+-- the bytes begin with no entry: with a long line; with the line of no object; or with the line of an object that is expected,
+-- and
 -- contents without a line feed behind them
-abbrev pub BeginsWithNoEntry : Kind → Option (List ℕ) → List ℕ → Type 0
-BeginsWithNoEntry kind expected bytes =
+abbrev pub BeginsWithNoEntry : Kind → ObjectType → Option (List ℕ) → List ℕ → Type 0
+BeginsWithNoEntry kind type expected bytes =
     BeginsWithLongLine bytes
     ⊎ (((line next : List ℕ) × IsLine bytes line next × IsNoObjectLine (id_len kind) line)
-    ⊎ ((digits next : List ℕ) × (size : ℕ) × BeginsWithHead kind expected bytes digits (heading.Commit size) next
+    ⊎ ((digits next : List ℕ) × (size : ℕ) × BeginsWithHead kind expected bytes digits (heading.Object type size) next
     × (size < length next) × (slice_index next size ≢ 10)))
 
 -- the bytes begin with the line of an object that is not the expected one
@@ -49,40 +51,47 @@ abbrev pub BeginsWithOtherId : Kind → Option (List ℕ) → List ℕ → Type 
 BeginsWithOtherId kind expected bytes =
     (digits next : List ℕ) × (told : Heading) × BeginsWithObject kind bytes digits told next × ¬ IsExpected expected digits
 
--- the bytes begin with the entry of a commit whose id is not that of its contents
-abbrev pub BeginsWithOtherContents : Kind → Option (List ℕ) → List ℕ → Type 0
-BeginsWithOtherContents kind expected bytes =
+-- the bytes begin with the line of an object that is expected, and is of another type
+abbrev pub BeginsWithOtherType : Kind → ObjectType → Option (List ℕ) → List ℕ → Type 0
+BeginsWithOtherType kind type expected bytes =
+    (digits next : List ℕ) × (other : ObjectType) × (size : ℕ)
+    × BeginsWithHead kind expected bytes digits (heading.Object other size) next × (other ≢ type)
+
+-- the bytes begin with the entry of an object whose id is not that of its contents
+abbrev pub BeginsWithOtherContents : Kind → ObjectType → Option (List ℕ) → List ℕ → Type 0
+BeginsWithOtherContents kind type expected bytes =
     (digits contents next : List ℕ)
-    × BeginsWithHead kind expected bytes digits (heading.Commit (length contents)) (contents ++ 10 ∷ next)
-    × (digits ≢ encode_lower (object_id_of kind contents))
+    × BeginsWithHead kind expected bytes digits (heading.Object type (length contents)) (contents ++ 10 ∷ next)
+    × (digits ≢ encode_lower (typed_id kind type contents))
 
--- why the bytes do not begin with the entry of a commit that is expected: the first reason, in this order
-abbrev pub IsEntryError : Kind → Option (List ℕ) → List ℕ → EntryError → Type 0
-IsEntryError kind expected bytes Ends = EndsWithinEntry kind expected bytes
-IsEntryError kind expected bytes NoEntry = BeginsWithNoEntry kind expected bytes
-IsEntryError kind expected bytes OtherId = BeginsWithOtherId kind expected bytes
-IsEntryError kind expected bytes Missing = (digits next : List ℕ) × BeginsWithHead kind expected bytes digits heading.Missing next
-IsEntryError kind expected bytes OtherType = (digits next : List ℕ) × BeginsWithHead kind expected bytes digits heading.Other next
-IsEntryError kind expected bytes OtherContents = BeginsWithOtherContents kind expected bytes
+-- why the bytes do not begin with the entry of an object of this type that is expected: the first reason, in this order
+abbrev pub IsEntryError : Kind → ObjectType → Option (List ℕ) → List ℕ → EntryError → Type 0
+IsEntryError kind type expected bytes Ends = EndsWithinEntry kind type expected bytes
+IsEntryError kind type expected bytes NoEntry = BeginsWithNoEntry kind type expected bytes
+IsEntryError kind type expected bytes OtherId = BeginsWithOtherId kind expected bytes
+IsEntryError kind type expected bytes Missing =
+    (digits next : List ℕ) × BeginsWithHead kind expected bytes digits heading.Missing next
+IsEntryError kind type expected bytes OtherType = BeginsWithOtherType kind type expected bytes
+IsEntryError kind type expected bytes OtherContents = BeginsWithOtherContents kind type expected bytes
 
--- the bytes begin with the line of a commit that is expected, and its entry has more than 64 KiB
-abbrev pub BeginsWithLongEntry : Kind → Option (List ℕ) → List ℕ → Type 0
-BeginsWithLongEntry kind expected bytes =
+-- the bytes begin with the line of an object of this type that is expected, and its entry has more than 64 KiB
+abbrev pub BeginsWithLongEntry : Kind → ObjectType → Option (List ℕ) → List ℕ → Type 0
+BeginsWithLongEntry kind type expected bytes =
     (line digits next : List ℕ) × (size : ℕ) × IsLine bytes line next
-    × IsObjectLine (id_len kind) line digits (heading.Commit size) × IsExpected expected digits
+    × IsObjectLine (id_len kind) line digits (heading.Object type size) × IsExpected expected digits
     × (65536 < length line + 1 + size + 1)
 
 -- why no entry is read of a stream with these bytes. Any read may fail, and memory run out for a long entry
-abbrev pub MayStop : Kind → Option (List ℕ) → List ℕ → StreamError → Type 0
-MayStop kind expected bytes (Entry error) = IsEntryError kind expected bytes error
-MayStop kind expected bytes (Read failure.Device) = ⊤
-MayStop kind expected bytes (Read failure.OutOfMemory) = BeginsWithLongEntry kind expected bytes
+abbrev pub MayStop : Kind → ObjectType → Option (List ℕ) → List ℕ → StreamError → Type 0
+MayStop kind type expected bytes (Entry error) = IsEntryError kind type expected bytes error
+MayStop kind type expected bytes (Read failure.Device) = ⊤
+MayStop kind type expected bytes (Read failure.OutOfMemory) = BeginsWithLongEntry kind type expected bytes
 
--- The bytes begin with the contents of a commit of this size and a line feed, and the commit has this id, the expected one
+-- The bytes begin with the contents of an object of this size and a line feed, and the object has this id, the expected one
 -- where one is.
-pub record BeginsWithContents (kind : Kind) (expected : Option (List ℕ)) (id : List ℕ) (size : ℕ) (bytes : List ℕ)
-    : Type 0 where
+pub record BeginsWithContents (kind : Kind) (type : ObjectType) (expected : Option (List ℕ)) (id : List ℕ) (size : ℕ)
+    (bytes : List ℕ) : Type 0 where
   pub within : size < length bytes
   pub feed : slice_index bytes size ≡ 10
-  pub own : id ≡ object_id_of kind (take size bytes)
+  pub own : id ≡ typed_id kind type (take size bytes)
   pub is_expected : IfSome expected (λ other. id ≡ other)

@@ -5,31 +5,32 @@ ghost use Rattle.std.specs.Prelude.{length, drop, nat_lt, take, if◌then◌else
 ghost use Rattle.std.specs.Io.KnownBytes.{Consumes, Keeps, prepend_known};
 ghost use Rattle.hex.specs.Hex.{IsBytes};
 ghost use Rattle.gix_hash_core.specs.Kind.{id_len};
-ghost use Rattle.commit_objects.specs.Object.{object_id_of};
-ghost use Rattle.object_stream.specs.BatchEntry.{line_of_commit, longest_line};
+ghost use Rattle.object_stream.specs.BatchEntry.{longest_line, object_line};
 ghost use Rattle.object_stream.specs.NextEntry.{BeginsWithContents, IsExpected, MayStop};
-ghost use Rattle.object_stream.specs.FoundEntry.{FindsCommit};
+ghost use Rattle.object_stream.specs.FoundEntry.{FindsObject};
+ghost use Rattle.object_stream.specs.TypedObject.{typed_id};
 
 use crate::buffer::Buffer;
 use crate::error::{EntryError, StreamError};
 use crate::line::{LINE, line_end, size_in};
+use crate::object_type::ObjectType;
 use crate::own_line::own_line;
 use commit_objects::spells;
 use gix_hash_core::{Kind, ObjectId, digest};
 use std::io::Read;
 
-/// The entry of a commit, whose contents stand at the front of a buffer, with a line feed behind
+/// The entry of an object, whose contents stand at the front of a buffer, with a line feed behind
 /// them.
 #[derive(Clone, Copy, Debug, PartialEq, Eq)]
 pub struct Entry {
-    /// The id of the commit, which is that of the contents.
+    /// The id of the object, which is that of the contents.
     pub id: ObjectId,
     /// How many bytes the contents have.
     pub size: usize,
 }
 
-/// Reads the next entry, that of a commit whose id is of this kind and, where one is given, the
-/// expected one. Its line is taken away from the buffer, so that the contents stand at the front.
+/// Reads the next entry, that of an object of this type whose id is of this kind and, where one is
+/// given, the expected one. Its line is taken away from the buffer, so that the contents stand at the front.
 ///
 /// # Errors
 ///
@@ -37,6 +38,7 @@ pub struct Entry {
 /// `OutOfMemory` where an entry of more than 64 KiB did not fit.
 pub fn next_entry<R: Read>(
     kind: Kind,
+    object_type: ObjectType,
     expected: Option<ObjectId>,
     buffer: &mut Buffer,
     reader: &mut R,
@@ -44,21 +46,21 @@ pub fn next_entry<R: Read>(
     ensures line { IfOk result (λ entry.
         Consumes (prepend_known buffer.old (R.remaining reader.old))
         (prepend_known buffer.new (R.remaining reader.new))
-        (line_of_commit entry.id entry.size ++ 10 ∷ [])) }
+        (object_line object_type entry.id entry.size ++ 10 ∷ [])) }
     ensures contents { IfOk result (λ entry.
-        BeginsWithContents kind expected entry.id entry.size buffer.new) }
+        BeginsWithContents kind object_type expected entry.id entry.size buffer.new) }
     ensures refused { IfErr result (λ error.
         IfSome (prepend_known buffer.old (R.remaining reader.old))
-        (λ bytes. MayStop kind expected bytes error)) }
+        (λ bytes. MayStop kind object_type expected bytes error)) }
 {
-    let (line, size) = next_line(kind, &expected, buffer, reader)?;
+    let (line, size) = next_line(kind, object_type, &expected, buffer, reader)?;
     if !buffer.fill(reader, line + 1, size)? {
         return Err(StreamError::Entry(EntryError::Ends));
     }
     if buffer.bytes()[line + 1 + size] != b'\n' {
         return Err(StreamError::Entry(EntryError::NoEntry));
     }
-    let id = id_of_entry(kind, buffer, line, size);
+    let id = id_of_entry(kind, object_type, buffer, line, size);
     if !spells(&buffer.bytes()[..2 * kind.len_in_bytes()], id.as_oid()) {
         return Err(StreamError::Entry(EntryError::OtherContents));
     }
@@ -67,12 +69,18 @@ pub fn next_entry<R: Read>(
 }
 
 /// The id of the contents in the entry at the front, whose line has so many bytes and tells this
-/// size. The line ends with a line feed where the commit object, of which all the rest stands
+/// type and size. The line ends with a line feed where the object, of which all the rest stands
 /// there, has a byte 00. So it gets that byte, and the object is digested where it stands.
-fn id_of_entry(kind: Kind, buffer: &mut Buffer, line: usize, size: usize) -> ObjectId
-    requires found { FindsCommit kind buffer.old line size }
+fn id_of_entry(
+    kind: Kind,
+    object_type: ObjectType,
+    buffer: &mut Buffer,
+    line: usize,
+    size: usize,
+) -> ObjectId
+    requires found { FindsObject kind object_type buffer.old line size }
     requires whole { line + 1 + size ≤ length buffer.old }
-    ensures id { result ≡ object_id_of kind (take size (drop (line + 1) buffer.old)) }
+    ensures id { result ≡ typed_id kind object_type (take size (drop (line + 1) buffer.old)) }
     ensures behind { drop (line + 1) buffer.new ≡ drop (line + 1) buffer.old }
     ensures digits { take (2 * id_len kind) buffer.new ≡ take (2 * id_len kind) buffer.old }
 {
@@ -81,31 +89,33 @@ fn id_of_entry(kind: Kind, buffer: &mut Buffer, line: usize, size: usize) -> Obj
     digest(kind, &buffer.bytes()[start..line + 1 + size])
 }
 
-/// The length of the next line, and the size that it tells of a commit that is expected.
+/// The length of the next line, and the size that it tells of an object of this type that is
+/// expected.
 fn next_line<R: Read>(
     kind: Kind,
+    object_type: ObjectType,
     expected: &Option<ObjectId>,
     buffer: &mut Buffer,
     reader: &mut R,
 ) -> Result<(usize, usize), StreamError>
-    ensures found { IfOk result (λ told. FindsCommit kind buffer.new told.0 told.1) }
+    ensures found { IfOk result (λ told. FindsObject kind object_type buffer.new told.0 told.1) }
     ensures expected { OnOk result (IsExpected expected.now (take (2 * id_len kind) buffer.new)) }
     ensures bytes { OnOk result (IfSome expected.now IsBytes) }
     ensures kept { OnOk result (Keeps (prepend_known buffer.old (R.remaining reader.old))
         (prepend_known buffer.new (R.remaining reader.new))) }
     ensures refused { IfErr result (λ error.
         IfSome (prepend_known buffer.old (R.remaining reader.old))
-        (λ bytes. MayStop kind expected.now bytes error)) }
+        (λ bytes. MayStop kind object_type expected.now bytes error)) }
 {
     buffer.fill(reader, 0, LINE - 1)?;
     let bytes = buffer.bytes();
-    if let Some(told) = own_line(kind, expected, bytes) {
+    if let Some(told) = own_line(kind, object_type, expected, bytes) {
         return Ok(told);
     }
     let Some(line) = line_end(bytes) else {
         return Err(no_line(bytes.len()));
     };
-    match size_in(kind, expected, &bytes[..line]) {
+    match size_in(kind, object_type, expected, &bytes[..line]) {
         Ok(size) => Ok((line, size as usize)),
         Err(error) => Err(StreamError::Entry(error)),
     }

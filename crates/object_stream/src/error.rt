@@ -2,8 +2,9 @@
 
 use thiserror::Error;
 
-/// Why what stands in a stream is not the entry of a commit, the expected one where one is: the
-/// first of these that holds. Its text is the name of the variant alone.
+/// Why what stands in a stream is not the entry of an object of the type that is asked for, the
+/// expected one where one is: the first of these that holds. Its text is the name of the variant
+/// alone.
 #[derive(Clone, Copy, Debug, PartialEq, Eq, Error)]
 pub enum EntryError {
     /// The stream ends before the entry is whole.

@@ -7,6 +7,7 @@ ghost use Rattle.hex.specs.Hex.{IsBytes};
 ghost use Rattle.gix_hash_core.specs.Kind.{id_len};
 ghost use Rattle.object_stream.specs.BatchEntry.{HasNoFeed, IsLineEnd, longest_line};
 ghost use Rattle.object_stream.specs.BatchEntry.{IsObjectLine, IsTail, is_lower_digit};
+ghost use Rattle.object_stream.specs.BatchEntry.{type_and_size};
 ghost use Rattle.object_stream.specs.NextEntry.{IsExpected};
 ghost use Rattle.object_stream.specs.FoundEntry.{IsOtherLine};
 ghost use Rattle.object_stream.specs.declared.heading.Heading as heading;
@@ -14,6 +15,7 @@ ghost use Rattle.object_stream.specs.declared.heading.Heading.TheVariants as tol
 
 use crate::error::EntryError;
 use crate::heading::Heading;
+use crate::object_type::ObjectType;
 use commit_objects::spells;
 use gix_hash_core::{Kind, ObjectId};
 use itoa::Buffer;
@@ -32,17 +34,18 @@ pub(crate) fn line_end(bytes: &[u8]) -> Option<usize>
     memchr(b'\n', &bytes[..bytes.len().min(LINE)])
 }
 
-/// The size that a line, without its line feed, tells of a commit that is expected, whose id is of
-/// this kind.
+/// The size that a line, without its line feed, tells of an object of this type that is expected,
+/// whose id is of this kind.
 pub(crate) fn size_in(
     kind: Kind,
+    object_type: ObjectType,
     expected: &Option<ObjectId>,
     line: &[u8],
 ) -> Result<u64, EntryError>
     ensures size { MatchResult result
         (λ size. IsObjectLine (id_len kind) line.now (take (2 * id_len kind) line.now)
-        (told.Commit size))
-        (IsOtherLine kind expected.now line.now) }
+        (told.Object object_type size))
+        (IsOtherLine kind object_type expected.now line.now) }
     ensures expected { OnOk result (IsExpected expected.now (take (2 * id_len kind) line.now)) }
     ensures bytes { OnOk result (IfSome expected.now IsBytes) }
 {
@@ -60,8 +63,13 @@ pub(crate) fn size_in(
     }
     match heading {
         Heading::Missing => Err(EntryError::Missing),
-        Heading::Other => Err(EntryError::OtherType),
-        Heading::Commit(size) => Ok(size),
+        Heading::Object(other, size) => {
+            if other.is(object_type) {
+                Ok(size)
+            } else {
+                Err(EntryError::OtherType)
+            }
+        }
     }
 }
 
@@ -81,19 +89,31 @@ fn heading_of(tail: &[u8]) -> Option<Heading>
     ensures { MatchOption result ((told : heading.Heading) → ¬ IsTail tail.now told)
         (IsTail tail.now) }
 {
-    if let Some(size) = size_behind(b" commit ", tail) {
-        return Some(Heading::Commit(size));
-    }
     if is_missing(tail) {
         return Some(Heading::Missing);
     }
-    if size_behind(b" tree ", tail).is_some()
-        || size_behind(b" blob ", tail).is_some()
-        || size_behind(b" tag ", tail).is_some()
-    {
-        return Some(Heading::Other);
+    if let Some(size) = size_of_type(ObjectType::Commit, tail) {
+        return Some(Heading::Object(ObjectType::Commit, size));
+    }
+    if let Some(size) = size_of_type(ObjectType::Tree, tail) {
+        return Some(Heading::Object(ObjectType::Tree, size));
+    }
+    if let Some(size) = size_of_type(ObjectType::Blob, tail) {
+        return Some(Heading::Object(ObjectType::Blob, size));
+    }
+    if let Some(size) = size_of_type(ObjectType::Tag, tail) {
+        return Some(Heading::Object(ObjectType::Tag, size));
     }
     None
+}
+
+/// The size that is told of an object of a type.
+fn size_of_type(object_type: ObjectType, tail: &[u8]) -> Option<u64>
+    ensures { MatchOption result
+        ((n : ℕ) → n < 2 ^ 64 → tail.now ≢ type_and_size object_type n)
+        (λ n. tail.now ≡ type_and_size object_type n) }
+{
+    size_behind(object_type.spaced_word(), tail)
 }
 
 /// Whether the tail says that the object is missing.

@@ -1,4 +1,4 @@
-//! Reading the line of a commit that is expected, in one go: in a right stream each line is one.
+//! Reading the line of an object that is expected, in one go: in a right stream each line is one.
 
 ghost use Rattle.std.specs.Prelude.{◌≡◌, ◌<◌, ◌^◌, ◌++◌, ◌∷◌, ◌*◌, ◌↔◌, ℕ, List, IfSome, IsSome};
 ghost use Rattle.std.specs.Prelude.{IsTrue, decimal, length, take};
@@ -7,9 +7,10 @@ ghost use Rattle.hex.specs.Hex.{IsBytes};
 ghost use Rattle.gix_hash_core.specs.Kind.{id_len};
 ghost use Rattle.object_stream.specs.BatchEntry.{is_lower_digit};
 ghost use Rattle.object_stream.specs.NextEntry.{IsExpected};
-ghost use Rattle.object_stream.specs.FoundEntry.{FindsCommit};
+ghost use Rattle.object_stream.specs.FoundEntry.{FindsObject};
 
 use crate::line::are_digits;
+use crate::object_type::ObjectType;
 use commit_objects::spells;
 use gix_hash_core::{Kind, ObjectId};
 
@@ -17,14 +18,16 @@ use gix_hash_core::{Kind, ObjectId};
 const MOST: usize = 1_000_000_000_000_000_000;
 
 /// How many bytes the line has, without its line feed, with which the bytes begin, and the size
-/// that it tells, where it is the line of a commit that is expected, whose id is of this kind.
-/// Where it is `None`, the line may still be that of the commit, with a size that no commit has.
+/// that it tells, where it is the line of an object of this type that is expected, whose id is of
+/// this kind. Where it is `None`, the line may still be that of the object, with a size that none
+/// has.
 pub(crate) fn own_line(
     kind: Kind,
+    object_type: ObjectType,
     expected: &Option<ObjectId>,
     bytes: &[u8],
 ) -> Option<(usize, usize)>
-    ensures found { IfSome result (λ told. FindsCommit kind bytes.now told.0 told.1) }
+    ensures found { IfSome result (λ told. FindsObject kind object_type bytes.now told.0 told.1) }
     ensures expected { IsSome result → IsExpected expected.now (take (2 * id_len kind) bytes.now) }
     ensures bytes { IsSome result → IfSome expected.now IsBytes }
 {
@@ -32,14 +35,15 @@ pub(crate) fn own_line(
     let Some((digits, tail)) = bytes.split_at_checked(id_digits) else {
         return None;
     };
-    let Some(text) = tail.strip_prefix(b" commit ") else {
+    let word = object_type.spaced_word();
+    let Some(text) = tail.strip_prefix(word) else {
         return None;
     };
     let Some((size_digits, size)) = size_before_feed(text) else {
         return None;
     };
     if are_own_digits(expected, digits) {
-        Some((id_digits + b" commit ".len() + size_digits, size))
+        Some((id_digits + word.len() + size_digits, size))
     } else {
         None
     }

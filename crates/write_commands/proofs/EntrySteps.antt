@@ -16,6 +16,7 @@ use Rattle.object_stream.specs.declared.error.StreamError.{StreamError}
 use Rattle.object_stream.specs.declared.error.StreamError.TheVariants as stream
 use Rattle.object_stream.proofs.EntryLemmas.{both_weaker}
 use Rattle.object_stream.proofs.TakingLemmas.{at_end, not_enough, of_known}
+use Rattle.object_stream.specs.declared.object_type.ObjectType.TheVariants as object
 use Rattle.graph_writer.specs.declared.commit.NewCommit.{NewCommit}
 use Rattle.write_commands.specs.NewEntries.{IsNoCommit, IsReadFailure, MayStopAt, TakesCommit, commits_error_at, commits_error_of}
 use Rattle.write_commands.specs.NewStream.{IsReadCommit, kind_of_stream}
@@ -56,7 +57,7 @@ some_there view (Some more) some = omega (arith, some, length-append view more)
 
 -- the stream gives no entry
 pub entry_stop : (kind : Kind) (number : ℕ) (before : Option (List ℕ)) (error : StreamError)
-    → IfSome before (λ bytes. 0 < length bytes) → IfSome before (λ bytes. MayStop kind None bytes error)
+    → IfSome before (λ bytes. 0 < length bytes) → IfSome before (λ bytes. MayStop kind object.Commit None bytes error)
     → IfSome before (λ bytes. MayStopAt kind number bytes (commits_error_at number error))
 entry_stop kind number None error some stop = tt
 entry_stop kind number (Some bytes) (stream.Entry e) some stop = (refl, (some, stop))
@@ -65,7 +66,7 @@ entry_stop kind number (Some bytes) (stream.Read failure.OutOfMemory) some stop 
 
 -- the contents say nothing
 pub contents_stop : (kind : Kind) (number : ℕ) (contents : List ℕ) (before : Option (List ℕ)) (fault : CommitsError)
-    → IfSome before (λ bytes. (next : List ℕ) × BeginsWithEntry (object_id_of kind contents) bytes contents next)
+    → IfSome before (λ bytes. (next : List ℕ) × BeginsWithEntry object.Commit (object_id_of kind contents) bytes contents next)
     → IsNoCommit kind number contents fault → IfSome before (λ bytes. MayStopAt kind number bytes fault)
 contents_stop kind number contents None fault read refused = tt
 contents_stop kind number contents (Some bytes) (Entry other e) read refused = absurd refused
@@ -76,10 +77,11 @@ contents_stop kind number contents (Some bytes) OutOfMemory read refused = tt
 
 -- the entry is taken
 pub commit_taken : (kind : Kind) (commit : NewCommit) (contents : List ℕ) (before now : Option (List ℕ))
-    → BothKnown (λ bytes next. BeginsWithEntry (object_id_of kind contents) bytes contents next) before now
+    → BothKnown (λ bytes next. BeginsWithEntry object.Commit (object_id_of kind contents) bytes contents next) before now
     → IsReadCommit kind contents commit → TakesCommit kind commit before now
 commit_taken kind commit contents before now passed says =
-    both_weaker (λ bytes next. BeginsWithEntry (object_id_of kind contents) bytes contents next)
-    (λ bytes next. (all : List ℕ) × BeginsWithEntry (object_id_of kind all) bytes all next × IsReadCommit kind all commit)
+    both_weaker (λ bytes next. BeginsWithEntry object.Commit (object_id_of kind contents) bytes contents next)
+    (λ bytes next. (all : List ℕ) × BeginsWithEntry object.Commit (object_id_of kind all) bytes all next
+    × IsReadCommit kind all commit)
     before now
     (λ bytes next entry. (contents, entry, says)) passed

@@ -10,6 +10,7 @@ use Rattle.std.proofs.lemmas.List.Elements.{All-nil, All-push}
 use Rattle.gix_hash_core.specs.declared.kind.Kind.{Kind}
 use Rattle.commit_objects.specs.Object.{object_id_of}
 use Rattle.object_stream.specs.BatchEntry.{BeginsWithEntry}
+use Rattle.object_stream.specs.declared.object_type.ObjectType.TheVariants as object
 use Rattle.graph_writer.specs.declared.commit.NewCommit.{NewCommit}
 use Rattle.write_commands.specs.NewEntries.{HasTaken, IsReadFailure, MayStopAt, TakesCommit}
 use Rattle.write_commands.specs.NewStream.{BeginsWithCommits, IsReadCommit, MayRefuseCommits, SaysCommits}
@@ -30,7 +31,7 @@ none_passed kind bytes = record { contents = []; whole = refl; say = tt; fit = A
 
 pub one_passed : (kind : Kind) (bytes mid contents next : List ℕ) (commits : List NewCommit) (commit : NewCommit)
     → BeginsWithCommits kind bytes commits mid
-    → BeginsWithEntry (object_id_of kind contents) mid contents next → IsReadCommit kind contents commit
+    → BeginsWithEntry object.Commit (object_id_of kind contents) mid contents next → IsReadCommit kind contents commit
     → BeginsWithCommits kind bytes (commits ++ commit ∷ []) next
 one_passed kind bytes mid contents next commits commit passed entry says =
     let all = passed.contents in

@@ -8,6 +8,7 @@ use Rattle.object_stream.specs.declared.error.ReadFailure.{ReadFailure}
 use Rattle.object_stream.specs.declared.error.ReadFailure.TheVariants as failure
 use Rattle.object_stream.specs.declared.error.StreamError.{StreamError}
 use Rattle.object_stream.specs.declared.error.StreamError.TheVariants as stream
+use Rattle.object_stream.specs.declared.object_type.ObjectType.TheVariants as object
 use Rattle.commit_objects.specs.CommitContents.{Said, Says}
 use Rattle.commit_objects.specs.Object.{object_id_of}
 use Rattle.graph_writer.specs.declared.commit.NewCommit.{NewCommit}
@@ -19,7 +20,7 @@ use Rattle.write_commands.specs.declared.error.CommitsError.TheVariants.{Entry, 
 abbrev pub TakesCommit : Kind → NewCommit → Option (List ℕ) → Option (List ℕ) → Type 0
 TakesCommit kind commit before now =
     BothKnown
-    (λ bytes next. (contents : List ℕ) × BeginsWithEntry (object_id_of kind contents) bytes contents next
+    (λ bytes next. (contents : List ℕ) × BeginsWithEntry object.Commit (object_id_of kind contents) bytes contents next
     × IsReadCommit kind contents commit)
     before now
 

@@ -7,9 +7,10 @@ use Rattle.gix_hash_core.specs.declared.kind.Kind.TheVariants.{Sha1, Sha256}
 use Rattle.commit_objects.specs.CommitContents.{Said, Says}
 use Rattle.commit_objects.specs.Object.{object_id_of}
 use Rattle.commit_objects.specs.Time.{newer_time}
-use Rattle.object_stream.specs.BatchEntry.{commit_entry, is_lower_digit, BeginsWithEntry}
+use Rattle.object_stream.specs.BatchEntry.{object_entry, is_lower_digit, BeginsWithEntry}
 use Rattle.object_stream.specs.NextEntry.{IsEntryError}
 use Rattle.object_stream.specs.declared.error.EntryError.{EntryError}
+use Rattle.object_stream.specs.declared.object_type.ObjectType.TheVariants as object
 use Rattle.graph_writer.specs.declared.commit.NewCommit.{NewCommit}
 use Rattle.write_commands.specs.declared.error.CommitsError.{CommitsError}
 use Rattle.write_commands.specs.declared.error.CommitsError.TheVariants.{Entry, Unreadable, Device, OutOfMemory}
@@ -30,7 +31,7 @@ pub record IsReadCommit (kind : Kind) (contents : List ℕ) (commit : NewCommit)
 
 -- the entry of the commit with these contents
 abbrev pub entry_of_commit : Kind → List ℕ → List ℕ
-entry_of_commit kind contents = commit_entry (object_id_of kind contents) contents
+entry_of_commit kind contents = object_entry object.Commit (object_id_of kind contents) contents
 
 -- The bytes begin with the entries of these commits, in their order, and this is next.
 pub record BeginsWithCommits (kind : Kind) (bytes : List ℕ) (commits : List NewCommit) (next : List ℕ) : Type 0 where
@@ -46,12 +47,12 @@ SaysCommits asked bytes commits = BeginsWithCommits (kind_of_stream asked bytes)
 -- the bytes begin with the entry of a commit whose contents say nothing
 abbrev pub BeginsWithUnreadable : Kind → List ℕ → Type 0
 BeginsWithUnreadable kind bytes =
-    (contents next : List ℕ) × BeginsWithEntry (object_id_of kind contents) bytes contents next
+    (contents next : List ℕ) × BeginsWithEntry object.Commit (object_id_of kind contents) bytes contents next
     × ((said : Said) → ¬ Says kind contents said)
 
 -- why the bytes, of which there are some, do not begin with the entry of a commit: the first reason
 abbrev pub IsNewEntryError : Kind → List ℕ → EntryError → Type 0
-IsNewEntryError kind bytes fault = (0 < length bytes) × IsEntryError kind None bytes fault
+IsNewEntryError kind bytes fault = (0 < length bytes) × IsEntryError kind object.Commit None bytes fault
 
 -- the bytes begin with so many entries of commits, and what is next is so
 abbrev pub GoesOn : Option Kind → List ℕ → ℕ → (Kind → List ℕ → Type 0) → Type 0

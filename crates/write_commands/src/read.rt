@@ -12,7 +12,7 @@ use crate::error::CommitsError;
 use crate::line::{MOST_DIGITS, kind_in_front};
 use gix_hash_core::Kind;
 use graph_writer::NewCommit;
-use object_stream::{Buffer, StreamError, next_entry};
+use object_stream::{Buffer, ObjectType, StreamError, next_entry};
 use std::alloc::{AllocError, Global};
 use std::io::Read;
 
@@ -96,7 +96,7 @@ fn read_commit<R: Read>(
     ensures err { IfErr result (λ error. IfSome (prepend_known buffer.old (R.remaining reader.old))
         (λ bytes. MayStopAt kind number bytes error)) }
 {
-    let entry = match next_entry(kind, None, buffer, reader) {
+    let entry = match next_entry(kind, ObjectType::Commit, None, buffer, reader) {
         Ok(entry) => entry,
         Err(error) => return Err(error_at(number, error)),
     };

@@ -5,6 +5,7 @@ use Rattle.graph_format.specs.Layer.{Layer}
 use Rattle.graph_layer.specs.Commit.{commit_layer, commit_pos}
 use Rattle.gix_commitgraph.specs.Graph.{graph_ids}
 use Rattle.object_stream.proofs.EntryLemmas.{entry_passed, entry_read}
+use Rattle.object_stream.specs.declared.object_type.ObjectType.TheVariants as object
 use Rattle.graph_objects.specs.Matching.{AreContentsAt, MatchesAt}
 use Rattle.graph_objects.specs.Mismatches.{MismatchesAt}
 use Rattle.graph_objects.specs.Taking.{MayRefuseEntry}
@@ -46,7 +47,8 @@ returns-in-Ok-matches_commit-clause-ok g c =
     rw left
     (taken layers p entry.id (take entry.size view) before (prepend_known (drop (entry.size + 1) view) known)
     (id_there layers p entry.id there)
-    (entry_passed before known entry.id view entry.size c.in-Ok.ensures.line contents.within contents.feed fits) matches)
+    (entry_passed object.Commit before known entry.id view entry.size c.in-Ok.ensures.line contents.within contents.feed fits)
+    matches)
 
 pub returns-in-Err-matches_commit-clause-err : goal.returns-in-Err-matches_commit-clause-err
 returns-in-Err-matches_commit-clause-err g c =
@@ -70,5 +72,5 @@ returns-in-Err-matches_commit-clause-err g c =
     rw c.commit_at-commit.ensures (rw c.bytes.ensures at c.in-Err-matches_commit.ensures) in
     mismatch_stop layers c.args.pos entry.id (take entry.size view) before c.in-Err-matches_commit.mismatch
     (id_there layers p entry.id there)
-    (entry_read before (g.R.Read.remaining c.next_entry.new.reader) entry.id view entry.size c.in-Ok.ensures.line
+    (entry_read object.Commit before (g.R.Read.remaining c.next_entry.new.reader) entry.id view entry.size c.in-Ok.ensures.line
     contents.within contents.feed fits) own differs

@@ -5,7 +5,7 @@ use Rattle.object_stream.specs.BatchEntry.{longest_line}
 use Rattle.object_stream.specs.NextEntry.{MayStop}
 use Rattle.object_stream.specs.declared.error.EntryError.TheVariants as error
 use Rattle.object_stream.specs.declared.error.StreamError.TheVariants.{Entry}
-use Rattle.object_stream.proofs.EntryLemmas.{found_commit}
+use Rattle.object_stream.proofs.EntryLemmas.{found_object}
 use Rattle.object_stream.proofs.TakingLemmas.{no_line_stop, other_line_stop}
 use Rattle.object_stream.proofs.entry.next_line.Goals as goal
 
@@ -15,18 +15,19 @@ returns-in_default-line_end-clause-refused g c =
     let view = c.fill.new.self in
     let told : c.no_line.result ≡ Entry (if nat_lt (length view) longest_line then error.Ends else error.NoEntry) =
     rw c.bytes-bytes.ensures at c.no_line.ensures in
-    subst (λ e. IfSome before (λ bytes. MayStop c.args.kind c.args.expected.now bytes e)) (sym told)
-    (no_line_stop c.args.kind c.args.expected.now before (g.R.Read.remaining c.fill.new.reader)
+    subst (λ e. IfSome before (λ bytes. MayStop c.args.kind c.args.object_type c.args.expected.now bytes e)) (sym told)
+    (no_line_stop c.args.kind c.args.object_type c.args.expected.now before (g.R.Read.remaining c.fill.new.reader)
     view c.in_ok-fill.ensures.kept c.in_ok-fill.field-0
     (rw c.bytes-bytes.ensures at c.in_default-line_end.ensures) c.in_ok-fill.ensures.enough c.in_ok-fill.ensures.end)
 
 pub returns-in-Ok-clause-found : goal.returns-in-Ok-clause-found
 returns-in-Ok-clause-found g c =
-    found_commit c.args.kind c.fill.new.self c.in-Some-line_end.line c.in-Ok.size
+    found_object c.args.kind c.args.object_type c.fill.new.self c.in-Some-line_end.line c.in-Ok.size
     (rw c.bytes-bytes.ensures at c.in-Some-line_end.ensures) (rw c.bytes-bytes.ensures at c.in-Ok.ensures.size)
 
 pub returns-in-Err-clause-refused : goal.returns-in-Err-clause-refused
 returns-in-Err-clause-refused g c =
-    other_line_stop c.args.kind c.args.expected.now (prepend_known c.args.buffer.now (g.R.Read.remaining c.args.reader.now))
+    other_line_stop c.args.kind c.args.object_type c.args.expected.now
+    (prepend_known c.args.buffer.now (g.R.Read.remaining c.args.reader.now))
     (g.R.Read.remaining c.fill.new.reader) c.fill.new.self c.in_ok-fill.ensures.kept c.in-Some-line_end.line c.in-Err.error
     (rw c.bytes-bytes.ensures at c.in-Some-line_end.ensures) (rw c.bytes-bytes.ensures at c.in-Err.ensures.size)

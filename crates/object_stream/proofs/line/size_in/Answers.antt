@@ -22,11 +22,14 @@ returns-in-Missing-clause-size c = (
   c.are_expected.ensures.same.0 c.if-not-are_expected.false,
 )
 
-pub returns-in-Other-clause-size : goal.returns-in-Other-clause-size
-returns-in-Other-clause-size c = (
+pub returns-else-is-clause-size : goal.returns-else-is-clause-size
+returns-else-is-clause-size c = (
   c.in-Some.digits.now,
+  c.in-Object.other,
+  c.in-Object.size,
   head_is c.len_in_bytes.result (id_len c.args.kind) c.args.line.now c.in-Some.digits.now c.in-Some.tail.now
-      told.Other c.len_in_bytes.ensures c.in-Some.ensures.cases
-      (c.are_digits.ensures.0 c.if-not-are_digits.false) (rw c.in-Other.is at c.in-Some-heading_of.ensures),
+      (told.Object c.in-Object.other c.in-Object.size) c.len_in_bytes.ensures c.in-Some.ensures.cases
+      (c.are_digits.ensures.0 c.if-not-are_digits.false) (rw c.in-Object.is at c.in-Some-heading_of.ensures),
   c.are_expected.ensures.same.0 c.if-not-are_expected.false,
+  λ same. let yes = c.is.ensures.1 same in cc (yes, c.if-is.false),
 )

@@ -3,8 +3,9 @@ use Rattle.std.proofs.lemmas.Result.{err_from_is_err_and}
 use Rattle.std.specs.Prelude.{IfSome}
 use Rattle.std.specs.Io.KnownBytes.{Consumes, prepend_known}
 use Rattle.commit_objects.specs.Object.{object_id_of}
-use Rattle.object_stream.specs.BatchEntry.{line_of_commit}
+use Rattle.object_stream.specs.BatchEntry.{object_line}
 use Rattle.object_stream.proofs.EntryLemmas.{entry_passed, entry_read}
+use Rattle.object_stream.specs.declared.object_type.ObjectType.TheVariants as object
 use Rattle.write_commands.specs.NewEntries.{MayStopAt}
 use Rattle.write_commands.proofs.EntrySteps.{commit_taken, contents_stop, entry_stop, some_there}
 use Rattle.write_commands.proofs.read.read_commit.Goals as goal
@@ -27,12 +28,13 @@ returns-in_err-commit-clause-err g c =
     let front = c.in-Ok.ensures.contents in
     let fits : entry.size < 2 ^ 64 = omega arith in
     let line : Consumes before (prepend_known view known)
-    (line_of_commit (object_id_of kind (take entry.size view)) entry.size ++ 10 ∷ []) =
+    (object_line object.Commit (object_id_of kind (take entry.size view)) entry.size ++ 10 ∷ []) =
     rw front.own at c.in-Ok.ensures.line in
     let handed = err_from_is_err_and c.from_residual.result c.from_residual.ensures.1 in
     rw (handed.1, handed.2)
     (contents_stop kind c.args.number (take entry.size view) before _
-    (entry_read before known (object_id_of kind (take entry.size view)) view entry.size line front.within front.feed fits)
+    (entry_read object.Commit before known
+    (object_id_of kind (take entry.size view)) view entry.size line front.within front.feed fits)
     (rw c.bytes.ensures at c.in_err-commit.ensures.refused))
 
 pub returns-clause-ok : goal.returns-clause-ok
@@ -45,10 +47,11 @@ returns-clause-ok g c =
     let front = c.in-Ok.ensures.contents in
     let fits : entry.size < 2 ^ 64 = omega arith in
     let line : Consumes before (prepend_known view known)
-    (line_of_commit (object_id_of kind (take entry.size view)) entry.size ++ 10 ∷ []) =
+    (object_line object.Commit (object_id_of kind (take entry.size view)) entry.size ++ 10 ∷ []) =
     rw front.own at c.in-Ok.ensures.line in
     let left : c.consume.new.self ≡ drop (entry.size + 1) view = c.consume.ensures in
     rw left
     (commit_taken kind c.in_ok-commit.commit (take entry.size view) before (prepend_known (drop (entry.size + 1) view) known)
-    (entry_passed before known (object_id_of kind (take entry.size view)) view entry.size line front.within front.feed fits)
+    (entry_passed object.Commit before known
+    (object_id_of kind (take entry.size view)) view entry.size line front.within front.feed fits)
     (rw c.bytes.ensures at c.in_ok-commit.ensures.commit))
