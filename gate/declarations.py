@@ -14,7 +14,7 @@ RUST, PYTHON = "bindings/rust/src/sys.rs", "bindings/python/commitgraph.py"
 
 COMMENT = re.compile(r"/\*.*?\*/", re.DOTALL)
 STRUCT = re.compile(r"^typedef struct (cg_\w+) \{(.*?)\} \1;$", re.MULTILINE | re.DOTALL)
-CALL = re.compile(r"^(?:CG_NODISCARD )?([\w ]+?) (cg_\w+)\(([^;]*?)\)(?: CG_NONNULL\(\([^;]*\)\))?;$", re.MULTILINE)
+CALL = re.compile(r"^(?:CG_NODISCARD\s+)?([\w ]+?)\s+(cg_\w+)\(([^;()]*)\)(?:\s+CG_NONNULL\(\([\d, ]*\)\))?;$", re.MULTILINE)
 ENUM = re.compile(r"^enum cg_\w+ \{ (.*) \};$", re.MULTILINE)
 """An enum on one line. That of the numbers of causes has many, and comes from the table of refusals."""
 
