@@ -1,7 +1,7 @@
-"""Counts what each command, each question and each call of the library for C costs on histories that are made to do harm, each of
-three sizes, and compares how that grows with a table.
+"""Counts what each command, each question, each call of the library for C, and calls of Rust that none of them makes, cost on histories
+that are made to do harm, each of three sizes, and compares how that grows with a table.
 
-usage: python3 suites/costs [--large] [GRAPHTOOL HISTORYTOOL LIBRARY [NAME..]]
+usage: python3 suites/costs [--large] [GRAPHTOOL HISTORYTOOL TEST_CALLS LIBRARY] [NAME..]
 
 The table is `table.py`, and the histories are in `shapes.py`: many layers, many parents, others and words of one list, ids that are
 alike in front or spread unevenly, one commit on top of many, and few commits with many bytes. Valgrind counts instructions, the same on
@@ -39,13 +39,13 @@ LARGE = 4
 CHANCE = {"instructions": 5000, "memory": 600}
 """So much of the growth of a cost may come by chance, as by how an id falls."""
 
-ROWS = [*table.COMMANDS, *table.QUESTIONS, *table.CALLS]
+ROWS = [*table.COMMANDS, *table.QUESTIONS, *table.CALLS, *table.RUST_CALLS]
 
 
 def main(paths, times, names):
     """Counts the costs of all rows, or of those of some names, and answers the exit status."""
     results, later = Results(), Later()
-    coverage.check(results, "each command, question and call has a row", [row.asked() for row in ROWS])
+    coverage.check(results, "each command, question and call has a row", [row.asked() for row in ROWS if row not in table.RUST_CALLS])
     unknown = {name for row in ROWS for name in row.shapes}.difference(table.SIZES)
     results.check("each shape of a row has a size", "there is no %s" % sorted(unknown) if unknown else None)
     # What writes the paths needs a reader, also where nothing is counted.
@@ -62,14 +62,20 @@ def main(paths, times, names):
 
 def count_all(results, found, times, names):
     """Counts the costs of the programs and the library at these paths, for one shape after another."""
-    tools = built.by_command(found), os.path.splitext(os.path.abspath(found[2]))[0] + ".a"
+    tools = built.by_command(found), os.path.splitext(os.path.abspath(found[-1]))[0] + ".a"
     with tempfile.TemporaryDirectory() as folder:
         counter = measured.Counter(folder)
-        for name in [name for name in table.SIZES if name in names] or table.SIZES:
-            size = table.SIZES[name]
-            made = laid_out(name, os.path.join(folder, name), min(times * size, table.MOST.get(name, times * size)))
+        for name in chosen(names):
+            size = times * table.SIZES[name]
+            made = laid_out(name, os.path.join(folder, name), min(size, table.MOST.get(name, size)))
             Counts(results, counter, made, tools, names).run()
             shutil.rmtree(os.path.join(folder, name))
+
+
+def chosen(names):
+    """The shapes of some names, or those that the rows of some names are about; or all."""
+    asked_about = {shape for row in ROWS if row.name in names for shape in row.shapes}
+    return [name for name in table.SIZES if name in names] or [name for name in table.SIZES if name in asked_about] or table.SIZES
 
 
 def laid_out(name, folder, size):
@@ -101,6 +107,8 @@ class Counts:
         for flags in ([], ["--unchecked"]):
             rows = [row for row in self.of(table.QUESTIONS) if row.flags() == flags]
             self.judge(rows, partial(self.of_questions, rows, flags))
+        for row in self.of(table.RUST_CALLS):
+            self.judge([row], partial(self.of_rust, row))
         rows = self.of(table.CALLS)
         self.judge(rows, lambda: self.counter.of_calls(self.archive, [row.name for row in rows], self.made))
 
@@ -108,6 +116,11 @@ class Counts:
         """What the command of a row costs at each size."""
         told = named(asked.COMMANDS, row)
         return [{row.name: self.counter.of_command(self.programs, told, shape)} for shape in self.made]
+
+    def of_rust(self, row):
+        """What the call of Rust of a row costs at each size."""
+        told = named(asked.RUST_CALLS, row)
+        return [{row.name: self.counter.of_rust(self.programs[asked.RUST], told, shape)} for shape in self.made]
 
     def of_questions(self, rows, flags):
         """What the questions of some rows cost at each size."""
@@ -148,7 +161,8 @@ def named(rows, row):
 
 
 if __name__ == "__main__":
-    WORDS = [word for word in sys.argv[1:] if word != "--large"]
-    if len(WORDS) in (1, 2) or any(word.startswith("--") for word in WORDS[:3]):
+    KNOWN = {*table.SIZES, *(row.name for row in ROWS)}
+    WORDS = built.read([word for word in sys.argv[1:] if word != "--large"], KNOWN)
+    if WORDS is None:
         sys.exit(__doc__)
-    sys.exit(main(WORDS[:3], LARGE if "--large" in sys.argv[1:] else 1, WORDS[3:]))
+    sys.exit(main(WORDS[0], LARGE if "--large" in sys.argv[1:] else 1, WORDS[1]))

@@ -71,15 +71,15 @@ class Counter:
                 shutil.copy(paths[0], path)
         return paths
 
-    def run(self, words, *options, given=os.devnull, **variables):
-        """Runs a program while it is counted, with no variables but these. Answers how it ended."""
+    def run(self, words, *options, given=os.devnull, folder=None, **variables):
+        """Runs a program while it is counted, in a folder where one is told, with no variables but these. Answers how it ended."""
         for path in (self.counts, self.memory):
             if os.path.exists(path):
                 os.remove(path)
         counted = ["--tool=callgrind", "--callgrind-out-file=" + self.counts, "--combine-dumps=yes", "--compress-strings=no"]
         variables.update(AS_ANYWHERE, LD_PRELOAD=self.counting, COUNTED=self.memory)
         with open(given, "rb") as source:
-            return run_of([self.path, "-q", *counted, "--compress-pos=no", *options, *words], stdin=source, env=variables)
+            return run_of([self.path, "-q", *counted, "--compress-pos=no", *options, *words], stdin=source, cwd=folder, env=variables)
 
     def parts(self):
         """What the last run cost up to the first answer that ends with an empty line, from there to the next, and so on: instructions and
@@ -99,6 +99,14 @@ class Counter:
             raise Wrong(complaint)
         read = os.path.getsize(given) if row.given else 0
         return Cost(*map(sum, zip(*self.parts())), shape.file_bytes + read + len(run.stdout))
+
+    def of_rust(self, program, row, shape):
+        """What the call of Rust of a row costs, which has to answer what is right: what comes behind the first empty line."""
+        run = self.run([program, row.name], folder=row.ask(shape))
+        complaint = answers.complaint(asking.text_of(row, shape), 0, (run.returncode, run.stdout + run.stderr))
+        if complaint:
+            raise Wrong(complaint)
+        return Cost(*map(sum, zip(*self.parts()[1:])), shape.file_bytes + len(shape.written))
 
     def of_questions(self, program, rows, shape, flags):
         """For each question what it costs, or a complaint: all are asked in one run, and then once more."""

@@ -1,6 +1,7 @@
-"""The table: for each command, question and call of the library for C, how its instructions and the bytes that it asks of the heap may
-grow with shapes that are made to do harm. The table of suites/sizes says what each is asked. A command that checks its graph once needs
-no row here, and no call that costs the same whatever the graph; what may cost more, or is to cost less, has one, and so has a question.
+"""The table: for each command, question, call of the library for C and call of Rust that none of them makes, how its instructions and
+the bytes that it asks of the heap may grow with shapes that are made to do harm. The table of suites/sizes says what each is asked.
+A command that checks its graph once needs no row here, and no call that costs the same whatever the graph; what may cost more, or is
+to cost less, has one, and so has a question.
 """
 
 from typing import NamedTuple, Tuple
@@ -237,3 +238,10 @@ GROWING = (
 
 CALLS = (*GROWING, *(Row(name, CALLED, CONSTANT, CONSTANT) for name in library.names() if name not in {row.name for row in GROWING}))
 """All calls: any other may cost no more, however large the graph is."""
+
+RUST_CALLS = (
+    Row("Checked::new", ("lines", "prefix", "parents", "lists", "padding"), LINEAR.at_most(ONCE), LINEAR),
+    Row("Checked::new", ("layers",), BY_BYTES.at_most(ONCE), LINEAR),
+    Row("CheckedGraph::push", (*COMMITS, "padding"), CONSTANT, CONSTANT),
+)
+"""The calls of Rust. Where a layer is put on top, none of those below is checked once more."""

@@ -1,7 +1,7 @@
-"""Asks each command, each question and each call of the library for C about histories of every size that may be too large for
-something, and compares the answers with the plans of the histories.
+"""Asks each command, each question, each call of the library for C, and calls of Rust that none of them makes, about histories of every
+size that may be too large for something, and compares the answers with the plans of the histories.
 
-usage: python3 suites/sizes [--large] [GRAPHTOOL HISTORYTOOL LIBRARY [NAME..]]
+usage: python3 suites/sizes [--large] [GRAPHTOOL HISTORYTOOL TEST_CALLS LIBRARY] [NAME..]
 
 The table is `table.py`, and the histories are in `shapes.py`: 300,040 commits with walks and searches of more than 200,000, a
 commit with 2,000 parents, 100 ids in one question, commits of 20 MB, a filter of 100 KiB, a chain of 256 layers, and a file of 100
@@ -36,7 +36,7 @@ def main(paths, large, names):
     results.check("each program and the library are built", None if all(found) else "no path of one came")
     if all(found):
         chosen = [make for make in shapes.ALL if make.__name__ in names] or shapes.ALL
-        rows = asking.Rows(built.by_command(found), os.path.abspath(found[2]), large, names)
+        rows = asking.Rows(built.by_command(found), os.path.abspath(found[-1]), large, names)
         for kind in ID_SIZE:
             for make in chosen:
                 run_apart(results, make, kind, rows)
@@ -69,7 +69,8 @@ def run_shape(sender, make, kind, rows):
 
 
 if __name__ == "__main__":
-    WORDS = [word for word in sys.argv[1:] if word != "--large"]
-    if len(WORDS) in (1, 2) or any(word.startswith("--") for word in WORDS[:3]):
+    KNOWN = {make.__name__ for make in shapes.ALL}.union(row.name for row in table.ROWS)
+    WORDS = built.read([word for word in sys.argv[1:] if word != "--large"], KNOWN)
+    if WORDS is None:
         sys.exit(__doc__)
-    sys.exit(main(WORDS[:3], "--large" in sys.argv[1:], WORDS[3:]))
+    sys.exit(main(WORDS[0], "--large" in sys.argv[1:], WORDS[1]))

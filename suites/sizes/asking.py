@@ -10,11 +10,11 @@ SECONDS = 300
 """A run that takes longer hangs."""
 
 
-def run(words, given=os.devnull):
-    """The status of a program, None where it hangs, and what it writes, also to standard error."""
+def run(words, given=os.devnull, folder=None):
+    """The status of a program, None where it hangs, and what it writes, also to standard error. It runs in a folder where that is told."""
     with open(given, "rb") as source:
         try:
-            ended = subprocess.run(words, stdin=source, capture_output=True, env={}, timeout=SECONDS, check=False)
+            ended = subprocess.run(words, stdin=source, capture_output=True, cwd=folder, env={}, timeout=SECONDS, check=False)
         except subprocess.TimeoutExpired:
             return None, b""
     return ended.returncode, ended.stdout + ended.stderr
@@ -40,6 +40,12 @@ def ask_command(programs, row, shape):
     status = 1 if wanted in (b"no\n", b"none\n") else 0
     told = run(words_of(programs, row, shape), row.given(shape) if row.given else os.devnull)
     return answers.complaint(wanted, status, told)
+
+
+def ask_rust(programs, row, shape):
+    """A complaint about what a call of Rust answers, or None."""
+    told = run([programs[table.RUST], row.name], folder=row.ask(shape))
+    return answers.complaint(text_of(row, shape), 0, told)
 
 
 def line_of(row, shape):
@@ -84,8 +90,7 @@ class Rows:
 
     def __init__(self, programs, library, large, names):
         self.programs, self.library, self.large = programs, library, large
-        every = [*table.COMMANDS, *table.QUESTIONS, *table.CALLS]
-        self.names = {row.name for row in every}.intersection(names) or {row.name for row in every}
+        self.names = {row.name for row in table.ROWS}.intersection(names) or {row.name for row in table.ROWS}
 
     def of(self, rows, shape):
         """Those of some rows that are asked of a shape."""
@@ -101,6 +106,8 @@ class Rows:
         for flags in ([], ["--unchecked"]) if questions else ():
             for name, complaint in ask_questions(self.programs["ask"], questions, shape, flags):
                 results.check(" ".join(["%s: %s" % (shape.title(), name), *flags]), complaint)
+        for row in self.of(table.RUST_CALLS, shape):
+            results.check("%s: %s" % (shape.title(), row.name), ask_rust(self.programs, row, shape))
         self.ask_calls(results, list(self.of(table.CALLS, shape)), shape)
 
     def ask_calls(self, results, rows, shape):

@@ -54,6 +54,16 @@ class Shape:
         """The numbers of the commits that are asked about, by their positions."""
         return self.plan.numbers[: self.count]
 
+    def for_rust(self):
+        """A folder with what `test_calls` opens: the graph, the one below the new layer, and that layer."""
+        folder = os.path.join(self.folder, "calls")
+        if not os.path.exists(folder):
+            os.mkdir(folder)
+            planned.write(folder, "upper", self.written)
+            for name, path in (("chain", self.path), ("lower", self.below)):
+                os.symlink(path, os.path.join(folder, name))
+        return folder
+
     def stream(self, name, numbers):
         """The path of a file with the commits of these numbers, as Git writes them to be read by a program."""
         path = os.path.join(self.folder, name)

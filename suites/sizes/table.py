@@ -3,7 +3,7 @@ answer of each by the plan. What is new joins by a row.
 
 A row of a command has its words, and a function each for what standard input has and for the answer; the status is 1 after `no` and
 `none`, and else 0. A row of a question has its line. A row of a call has a function of `exports.py` or one here, which makes the call,
-and gives what was answered beside what it has to be.
+and gives what was answered beside what it has to be. A call of Rust is made by `test_calls`, in a folder with the files that it needs.
 """
 
 import ctypes
@@ -21,7 +21,7 @@ UNREAD = ("long", "octopus", "big", "wide", "chain")
 class Row(NamedTuple):
     """What one row asks. `name` is that of a command, behind it `--unchecked` where that is asked, of a question as `ask find`, or of a
     call; and behind a colon what tells the row from others of that name. `ask` gives the words behind the command, or the ids of the
-    question, or makes the call."""
+    question, or the folder in which `test_calls` makes a call of Rust, or makes the call."""
 
     name: str
     shapes: Tuple[str, ...]
@@ -142,9 +142,19 @@ def reversed_pair(shape):
     return apart(shape)[::-1]
 
 
+def for_rust(shape):
+    """The folder with the files of the calls of Rust."""
+    return shape.for_rust()
+
+
+def begun(text):
+    """What `test_calls` writes: the line before a call, an empty one, and what the call answers."""
+    return "begun\n\n%s\n" % text
+
+
 def base(name):
     """The name of a command, a question or a call, without what tells a row from others of that name."""
-    return name.partition(":")[0]
+    return name.partition(": ")[0]
 
 
 COMMANDS = (
@@ -247,3 +257,15 @@ CALLS = (
     Row("cg_chain_line", EACH, exports.chain_line),
 )
 """The calls of the library for C."""
+
+RUST = "test_calls"
+"""The program that makes calls of Rust."""
+
+RUST_CALLS = (
+    Row("Checked::new", EACH, for_rust, lambda shape: begun("Ok(%d)" % shape.count)),
+    Row("CheckedGraph::push", EACH, for_rust, lambda shape: begun("(Ok(()), %d)" % shape.plan.count)),
+)
+"""Calls of Rust that no command and no call of the library makes."""
+
+ROWS = (*COMMANDS, *QUESTIONS, *CALLS, *RUST_CALLS)
+"""All rows."""

@@ -5,7 +5,7 @@ use anyhow::{Result, ensure};
 use gix_commitgraph::file::Commit;
 use gix_commitgraph::{File, Graph};
 use graph_folder::folder::{Folder, Memory};
-use graph_history::CheckedGraph;
+use graph_history::{Checked, CheckedGraph};
 use graph_vectors::{Row, build, plan_of_rows};
 use std::alloc::{AllocError, Global};
 use std::convert::Infallible;
@@ -66,6 +66,14 @@ pub fn verify_integrity(rt: &HostRuntime, alloc: Global) -> Result<()> {
         }
         Err(error) => tell(rt, &(Err::<u32, _>(error), calls)),
     }
+}
+
+/// Checks a graph that is lent, and tells how many commits it has.
+pub fn check(rt: &HostRuntime, alloc: Global) -> Result<()> {
+    let graph = Graph::at(rt, alloc, "chain")?;
+    begin(rt)?;
+    let answer = Checked::new(alloc, &graph);
+    tell(rt, &answer.map(|checked| checked.num_commits()))
 }
 
 /// Puts the upper layer of the chain on top of the lower one, which was checked, and tells how many

@@ -2,8 +2,9 @@
 //!
 //! `suites/refused_memory` refuses each allocation of a call in turn: it lays out the files that
 //! the call needs, and counts allocations from the line on that is written right before it. What
-//! was answered is written after it, without any further allocation. `suites/real_data` asks the
-//! filters.
+//! was answered is written after it, without any further allocation. `suites/sizes` makes calls
+//! over large histories, and `suites/costs` counts what they cost from the same line on.
+//! `suites/real_data` asks the filters.
 #![tactic(auto)]
 
 mod calls;
@@ -26,6 +27,7 @@ fn make(rt: &HostRuntime, alloc: Global, words: &[String]) -> Result<()> {
             "File::at" => calls::open_layer(rt, alloc),
             "traverse" => calls::traverse(rt, alloc),
             "verify_integrity" => calls::verify_integrity(rt, alloc),
+            "Checked::new" => calls::check(rt, alloc),
             "CheckedGraph::push" => calls::push(rt, alloc),
             "build" => calls::build_file(rt, alloc),
             "put_file" => calls::put_file(rt, alloc),

@@ -3,9 +3,9 @@
 use anyhow::Result;
 use std::fmt::Debug;
 
-/// Writes the line that comes right before a call.
+/// Writes a line right before a call, and an empty one.
 pub fn begin(rt: &HostRuntime) -> Result<()> {
-    tell(rt, &"begun")
+    Ok(println!(rt; "begun\n")?)
 }
 
 /// Writes what was answered as a line. A proof has much to go over where a text is made, so that is
