@@ -242,6 +242,8 @@ CALLS = (*GROWING, *(Row(name, CALLED, CONSTANT, CONSTANT) for name in library.n
 RUST_CALLS = (
     Row("Checked::new", ("lines", "prefix", "parents", "lists", "padding"), LINEAR.at_most(ONCE), LINEAR),
     Row("Checked::new", ("layers",), BY_BYTES.at_most(ONCE), LINEAR),
+    Row("merge_bases", ("lines", "tower", "parents", "lists"), N_LOG_N, LINEAR),
+    Row("merge_bases", ("padding",), CONSTANT, CONSTANT),
     Row("CheckedGraph::push", (*COMMITS, "padding"), CONSTANT, CONSTANT),
 )
 """The calls of Rust. Where a layer is put on top, none of those below is checked once more."""

@@ -86,6 +86,16 @@ def compared(shape):
     return lines([*bases, "ahead %d behind %d" % (shape.ahead, shape.behind), "visits %d-%d" % (least, 3 * shape.count)])
 
 
+def common(shape):
+    """What the last commit and all commits have in common: that commit, and all but those that lead to it are behind it."""
+    left = {shape.order()[-1]}
+    led = set(left)
+    while left:
+        left = {parent for number in left for parent in shape.plan.parents[number]}.difference(led)
+        led.update(left)
+    return "Ok([Position(%d)])\nOk(Divergence { ahead: 0, behind: %d })" % (shape.count - 1, shape.count - len(led))
+
+
 def parents(shape, number):
     """What the question for the parents of a commit gets."""
     return " ".join(["parents", *map(shape.plan.hex, shape.plan.parents[number])]) + "\n"

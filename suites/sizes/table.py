@@ -263,6 +263,7 @@ RUST = "test_calls"
 
 RUST_CALLS = (
     Row("Checked::new", EACH, for_rust, lambda shape: begun("Ok(%d)" % shape.count)),
+    Row("merge_bases", EACH, for_rust, lambda shape: begun(answers.common(shape))),
     Row("CheckedGraph::push", EACH, for_rust, lambda shape: begun("(Ok(()), %d)" % shape.plan.count)),
 )
 """Calls of Rust that no command and no call of the library makes."""

@@ -1,9 +1,12 @@
 //! The calls. Each writes what it answered.
 
+ghost use Rattle.std.specs.Prelude.{◌<◌, All, IfOk};
+ghost use Rattle.gix_commitgraph.specs.Graph.{total};
+
 use crate::told::{begin, tell};
-use anyhow::{Result, ensure};
+use anyhow::{Result, bail, ensure};
 use gix_commitgraph::file::Commit;
-use gix_commitgraph::{File, Graph};
+use gix_commitgraph::{File, Graph, Position};
 use graph_folder::folder::{Folder, Memory};
 use graph_history::{Checked, CheckedGraph};
 use graph_vectors::{Row, build, plan_of_rows};
@@ -74,6 +77,33 @@ pub fn check(rt: &HostRuntime, alloc: Global) -> Result<()> {
     begin(rt)?;
     let answer = Checked::new(alloc, &graph);
     tell(rt, &answer.map(|checked| checked.num_commits()))
+}
+
+/// Tells what the last commit of a graph and all its commits have in common, which is that commit,
+/// and how far they have come apart.
+pub fn merge_bases(rt: &HostRuntime, alloc: Global) -> Result<()> {
+    let graph = Graph::at(rt, alloc, "chain")?;
+    let checked = Checked::new(alloc, &graph)?;
+    let all = positions(alloc, &checked)?;
+    let Some(last) = all.last() else {
+        bail!("no commit");
+    };
+    begin(rt)?;
+    let bases = checked.merge_bases(alloc, *last, &all);
+    tell(rt, &bases.map(|bases| bases.positions))?;
+    tell(rt, &checked.divergence(alloc, *last, &all))
+}
+
+/// The positions of all commits.
+fn positions(alloc: Global, checked: &Checked<'_>) -> Result<Vec<Position>, AllocError>
+    ensures { IfOk result (λ all.
+        All (λ pos. pos.0 < total checked.now.layers) all.items) }
+{
+    let mut all = Vec::new(alloc);
+    for number in 0..checked.num_commits() {
+        all.push(Position(number))?;
+    }
+    Ok(all)
 }
 
 /// Puts the upper layer of the chain on top of the lower one, which was checked, and tells how many

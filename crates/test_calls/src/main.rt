@@ -28,6 +28,7 @@ fn make(rt: &HostRuntime, alloc: Global, words: &[String]) -> Result<()> {
             "traverse" => calls::traverse(rt, alloc),
             "verify_integrity" => calls::verify_integrity(rt, alloc),
             "Checked::new" => calls::check(rt, alloc),
+            "merge_bases" => calls::merge_bases(rt, alloc),
             "CheckedGraph::push" => calls::push(rt, alloc),
             "build" => calls::build_file(rt, alloc),
             "put_file" => calls::put_file(rt, alloc),
