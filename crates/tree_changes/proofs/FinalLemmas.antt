@@ -18,14 +18,14 @@ use Rattle.tree_changes.proofs.LevelLemmas.{none_left}
 use Rattle.tree_changes.specs.Walk.{Change, IsChange, IsEarlier, change_key, end_if, leaf_texts, AreRisingChanges, HasNames}
 use Rattle.tree_changes.specs.Walk.{IsLeft, IsFoundIn, IsFoundSoFar, AreLevels, Pending}
 
-abbrev text_of : Change → List ℕ
+abbrev pub text_of : Change → List ℕ
 text_of c = slashed c.directories ++ c.name
 
-key_is : (c : Change) → c.directory ≡ false → change_key c ≡ text_of c
+pub key_is : (c : Change) → c.directory ≡ false → change_key c ≡ text_of c
 key_is c e =
     ap (λ d. slashed c.directories ++ (c.name ++ end_if d)) e ∙ ap (λ t. slashed c.directories ++ t) (append-nil c.name)
 
-all_cond : {X : Type 0} (P : X → Type 0) (d : Bool) (x : X) (xs : List X) → (d ≡ false → P x) → All P xs
+pub all_cond : {X : Type 0} (P : X → Type 0) (d : Bool) (x : X) (xs : List X) → (d ≡ false → P x) → All P xs
     → All P (cond d xs (x ∷ xs))
 all_cond P true x xs f h = h
 all_cond P false x xs f h = All-cons P x xs (f refl) h
@@ -63,10 +63,10 @@ tail_cond : (d : Bool) (text : List ℕ) (texts : List (List ℕ)) (t : List ℕ
 tail_cond true text texts t h = h
 tail_cond false text texts t h = Contains-append_right (text ∷ []) texts t h
 
-abbrev HasText : List (List ℕ) → Change → Type 0
+abbrev pub HasText : List (List ℕ) → Change → Type 0
 HasText texts c = c.directory ≡ false → Contains texts (text_of c)
 
-have_texts : (changes : List Change) → All (HasText (leaf_texts changes)) changes
+pub have_texts : (changes : List Change) → All (HasText (leaf_texts changes)) changes
 have_texts [] = All-nil (HasText [])
 have_texts (c ∷ changes) =
     All-cons (HasText (leaf_texts (c ∷ changes))) c changes (head_cond c.directory (text_of c) (leaf_texts changes))

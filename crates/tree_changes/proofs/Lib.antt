@@ -10,3 +10,4 @@ pub mod StopLemmas
 pub mod GoneOn
 pub mod NextStep
 pub mod FinalLemmas
+pub mod FirstLemmas

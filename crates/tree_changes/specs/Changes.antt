@@ -28,6 +28,13 @@ pub record AreChanged (world : World) (old new : Option (List ℕ)) (texts : Lis
   pub each : All (IsChangedText world old new) texts
   pub all : (path : TreePath) → IsChanged world old new path → Contains texts (joined path)
 
+-- These are the first of the paths that are changed, in the order of their bytes: each other one comes behind them all.
+pub record AreFirstChanged (world : World) (old new : Option (List ℕ)) (texts : List (List ℕ)) : Type 0 where
+  pub rising : AreRisingTexts texts
+  pub each : All (IsChangedText world old new) texts
+  pub others : (path : TreePath) → IsChanged world old new path
+      → Contains texts (joined path) ⊎ All (λ text. slice_cmp nat_cmp text (joined path) ≡ Less) texts
+
 -- More than so many paths are changed.
 pub record AreMore (world : World) (old new : Option (List ℕ)) (most : ℕ) : Type 0 where
   pub texts : List (List ℕ)

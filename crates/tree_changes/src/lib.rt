@@ -5,10 +5,12 @@
 #![tactic(auto)]
 
 mod changes;
+mod in_turn;
 mod level;
 mod source;
 mod trees;
 mod walk;
 
 pub use changes::{Limits, Refusal, changed_paths};
+pub use in_turn::ChangesInTurn;
 pub use source::TreeSource;

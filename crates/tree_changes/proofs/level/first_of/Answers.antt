@@ -1,7 +1,6 @@
 use Rattle.std.proofs.Common.{sym}
 use Rattle.tree_objects.specs.Entry.{entry_of}
 use Rattle.tree_changes.proofs.PairLemmas.{arm_less, arm_greater, arm_equal}
-use Rattle.tree_changes.proofs.EndLemmas.{itself}
 use Rattle.tree_changes.proofs.level.first_of.Goals as goal
 
 pub returns-in-Less-clause-pair : goal.returns-in-Less-clause-pair
