@@ -6,3 +6,4 @@ pub mod Adding
 pub mod CommitsOf
 pub mod FoundParents
 pub mod Stored
+pub mod SameKnowledge

@@ -8,6 +8,7 @@
 
 mod add;
 mod base;
+mod base_or_none;
 mod commits;
 mod error;
 mod found;
@@ -18,6 +19,7 @@ mod newer;
 mod parents;
 
 pub use base::Base;
+pub use base_or_none::BaseOrNone;
 pub use commits::NewerCommits;
 pub use error::AddError;
 pub use newer::Newer;
