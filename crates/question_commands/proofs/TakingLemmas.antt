@@ -1,5 +1,5 @@
 -- A graph that is opened anew beside one that stands.
-use Rattle.std.proofs.Common.{◌≡◌, ℕ, ◌-◌, ◌<◌, List, ◌++◌, length, take, drop, Option, Some, None}
+use Rattle.std.proofs.Common.{◌≡◌, ℕ, ◌-◌, ◌<◌, List, [], ◌++◌, length, take, drop, Option, Some, None}
 use Rattle.std.proofs.Common.{Result, Ok, Err, true, refl, sym, ap, subst, ◌∙◌, arith, get_or}
 use Rattle.std.specs.Prelude.{Bool, MatchOption, IsSomeAnd, Vec, if◌then◌else◌}
 use Rattle.std.specs.Option.{ForSome, ok_or}
@@ -128,14 +128,14 @@ module _ (S : Type 0) (layers_of : S → List Layer) where
   taken-next P Q s t u error answer tried of =
       subst (λ (layers : List Layer). TakesBy Q layers (layers_of u) answer) tried.1 of
 
-  pub taken-path : (known : Option Tree) (path : List ℕ) (old new : ℕ) (before after : S)
+  pub taken_path : (known : Option Tree) (path : List ℕ) (old new : ℕ) (before after : S)
       (answer : Result (Result ℕ (VerifyError NoFault)) OpenError)
       → PathComes known
       (λ (file : List ℕ) (from to : ℕ) (s t : S). taken (OpensStopping known (λ tree. file_opened tree file) from to) s t)
       (λ (chain : List ℕ) (from to : ℕ) (s t : S). taken (OpensStopping known (λ tree. chain_opened tree chain) from to) s t)
       path old new before after answer
       → taken (MayOpen known path old new) before after answer
-  taken-path known path old new before after answer of =
+  taken_path known path old new before after answer of =
       comes-path taken taken-widen taken-error taken-first taken-next known path old new before after answer of
 
 -- a layer that was opened is what a line names, if that names its path and the file there has its bytes

@@ -42,6 +42,7 @@ type Checked = Result<u32, VerifyError<NoFault>>;
 ///
 /// `Open` where no graph was opened, and `Verify` where the check refused it. The graph is the one
 /// of before then.
+#[tactic(auto, using(crate::proofs::TakingLemmas::taken_path))]
 pub fn take_anew<T: Folder>(
     alloc: Global,
     folder: &mut T,
