@@ -1,0 +1,2 @@
+pub mod RightFilters
+pub mod Refused
