@@ -15,7 +15,7 @@ use Rattle.path_filters.specs.Touched.{IsTouched}
 use Rattle.filter_checks.specs.RightFilters.{HasAllTouched}
 use Rattle.filter_checks.specs.Refused.{ArePossibleAlong, IsFirstAbsent, IsFirstLack, IsFilterRefusal, IsLackOf}
 use Rattle.filter_checks.specs.declared.refusal.FilterRefusal.{FilterRefusal}
-use Rattle.filter_checks.specs.declared.refusal.FilterRefusal.TheVariants.{Lacks, Trees}
+use Rattle.filter_checks.specs.declared.refusal.FilterRefusal.TheVariants.{Lacks, Trees, Differs}
 
 -- a text does not come before another that comes before it
 not_both_ways : (a b : List ℕ) → slice_cmp nat_cmp a b ≡ Less → ¬ (slice_cmp nat_cmp b a ≡ Less)
@@ -82,3 +82,4 @@ lack_is refused limits world old new all p path (Lacks text) e h =
     subst (IsFirstLack all p (IsChangedText world old new)) (sym e) h
 lack_is refused limits world old new all p path (Trees refusal) e h =
     subst (λ r. IsRefusal refused limits.paths limits.names limits.trees world old new r) (sym e) tt
+lack_is refused limits world old new all p path Differs e h = absurd e

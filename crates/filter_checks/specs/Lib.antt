@@ -1,2 +1,3 @@
 pub mod RightFilters
 pub mod Refused
+pub mod Written

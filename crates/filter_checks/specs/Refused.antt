@@ -13,7 +13,7 @@ use Rattle.tree_changes.specs.declared.changes.Refusal.TheVariants.{OutOfMemory}
 use Rattle.path_filters.specs.Touched.{LeadsTo}
 use Rattle.filter_checks.specs.RightFilters.{IsPossibleAt, IsAbsentAt, AreRightBelow, root_tree_at, parent_tree_at}
 use Rattle.filter_checks.specs.declared.refusal.FilterRefusal.{FilterRefusal}
-use Rattle.filter_checks.specs.declared.refusal.FilterRefusal.TheVariants.{Lacks, Trees}
+use Rattle.filter_checks.specs.declared.refusal.FilterRefusal.TheVariants.{Lacks, Trees, Differs}
 use Rattle.filter_checks.specs.declared.refusal.RefusedFilter.{RefusedFilter}
 
 -- the text is the path, or a directory that leads to it
@@ -48,6 +48,7 @@ abbrev pub IsFilterRefusal : {E : Type 0} → (List ℕ → E → Type 0) → Li
 IsFilterRefusal refused limits world old new all p (Lacks path) = IsFirstLack all p (IsChangedText world old new) path.items
 IsFilterRefusal refused limits world old new all p (Trees refusal) =
     IsRefusal refused limits.paths limits.names limits.trees world old new refusal
+IsFilterRefusal refused limits world old new all p Differs = ⊥
 
 -- the same of the trees of the first parent and of the commit at a position
 abbrev pub IsRefusalAt : {E : Type 0} → (List ℕ → E → Type 0) → Limits → World → List Layer → FiltersOfGraph → ℕ
@@ -67,3 +68,4 @@ pub record IsFirstRefused {E : Type 0} (refused : List ℕ → E → Type 0) (li
 abbrev pub IsLackOf : {E : Type 0} → List ℕ → FilterRefusal E → Type 0
 IsLackOf path (Lacks text) = text.items ≡ path
 IsLackOf path (Trees refusal) = refusal ≡ OutOfMemory
+IsLackOf path Differs = ⊥

@@ -27,7 +27,7 @@ use tree_changes::{Limits, TreeSource};
 /// The first commit whose filter is refused: `Lacks` with the first path that it lacks, of the
 /// changed paths in the order of their bytes, and of the directories that lead to each before it;
 /// `Trees` where a limit ends the way, or the source refuses a tree that has to be read, or memory
-/// ran out. Before that, at this commit, no path was lacked.
+/// ran out.
 pub fn check_filters<S: TreeSource>(
     alloc: Global,
     graph: &Graph,

@@ -50,7 +50,7 @@ pub(crate) fn check_commit<S: TreeSource>(
 }
 
 /// The id of the root tree of a commit.
-fn root_tree(graph: &Graph, pos: Position) -> oid<'_>
+pub(crate) fn root_tree(graph: &Graph, pos: Position) -> oid<'_>
     requires { pos.0 < total graph.now }
     ensures { root_tree_at graph.now pos.0 ≡ Some (oid_bytes result) }
 {
@@ -58,7 +58,7 @@ fn root_tree(graph: &Graph, pos: Position) -> oid<'_>
 }
 
 /// The id of the root tree of the first parent of a commit, where it has a parent.
-fn parent_tree(graph: &Graph, pos: Position) -> Option<oid<'_>>
+pub(crate) fn parent_tree(graph: &Graph, pos: Position) -> Option<oid<'_>>
     requires sound { Sound graph.now }
     requires within { pos.0 < total graph.now }
     ensures { parent_tree_at graph.now pos.0 ≡ option_map oid_bytes result }

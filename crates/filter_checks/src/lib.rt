@@ -10,6 +10,8 @@ mod commit;
 mod lack;
 pub mod law;
 mod refusal;
+mod written;
 
 pub use check::check_filters;
 pub use refusal::{FilterRefusal, RefusedFilter};
+pub use written::check_written_filters;

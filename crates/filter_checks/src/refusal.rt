@@ -10,6 +10,8 @@ pub enum FilterRefusal<E> {
     Lacks(Vec<u8>),
     /// What the commit changes is not told.
     Trees(Refusal<E>),
+    /// Git writes another filter for what the commit changes.
+    Differs,
 }
 
 /// A filter that is refused.
