@@ -1,6 +1,6 @@
 -- What a graph was read from, whatever stood in the folder before or after each read: others may write while it is opened.
 -- ("Commit-Graphs Chains" of Git's commit-graph design.)
-use Rattle.std.specs.Prelude.{◌≡◌, ◌×◌, ◌⊎◌, ℕ, List, All, map}
+use Rattle.std.specs.Prelude.{◌≡◌, ◌⊎◌, ℕ, List, All, map}
 use Rattle.std.specs.Str.Lines.{lines}
 use Rattle.graph_format.specs.Layer.{Layer}
 use Rattle.graph_layer.specs.LayerOpening.{LayerWasRead}

@@ -1,7 +1,7 @@
 -- The files that an opened graph is read from, carried from one opener to the next.
 use Rattle.std.proofs.Common.{◌≡◌, ℕ, List, [], ◌∷◌, ◌++◌, All, Result, Ok, Err, IfOk, IfErr, map, ap, sym, subst, ◌∙◌}
 use Rattle.std.proofs.Common.{append_assoc}
-use Rattle.std.proofs.lemmas.List.{append-nil, map-append}
+use Rattle.std.proofs.lemmas.List.{map-append}
 use Rattle.std.specs.Prelude.{MatchResult}
 use Rattle.std.proofs.lemmas.List.Elements.{All-append, All-cons, All-nil}
 use Rattle.graph_format.specs.Layer.{Layer}
@@ -67,11 +67,3 @@ paths_with-next folder layers more line lines left layer names named pushed =
     ∙ sym (append_assoc (map path layers) (layer.path ∷ []) after)
     ∙ ap (λ (paths : List (List ℕ)). paths ++ after) (sym (map-append path layers (layer ∷ [])))
     ∙ ap (λ (all : List Layer). paths_with all folder lines) (sym pushed)
-
--- and when no line is left, they are those of all lines
-pub named-all : (folder : List ℕ) (layers : List Layer) (lines left : List (List ℕ)) → left ≡ []
-    → paths_with layers folder left ≡ map (layer_path folder) lines
-    → map (λ layer. layer.path) layers ≡ map (layer_path folder) lines
-named-all folder layers lines left none is =
-    let path : Layer → List ℕ = λ one. one.path in
-    sym (append-nil (map path layers)) ∙ ap (paths_with layers folder) (sym none) ∙ is

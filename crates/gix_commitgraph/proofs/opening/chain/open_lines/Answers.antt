@@ -3,7 +3,7 @@ use Rattle.std.proofs.lemmas.Grind.{common_steps}
 use Rattle.std.proofs.lemmas.Result.{err_from_is_err_and}
 use Rattle.gix_commitgraph.proofs.opening.ChainOpeningLemmas.{layers_with-next, read-from_line, read-pushed}
 use Rattle.gix_commitgraph.proofs.opening.OpenErrorLemmas.{line-within, lines-counted}
-use Rattle.gix_commitgraph.proofs.opening.OpenedPathLemmas.{from-pushed, given-pushed, named-all, paths_with-next}
+use Rattle.gix_commitgraph.proofs.opening.OpenedPathLemmas.{from-pushed, given-pushed, paths_with-next}
 use Rattle.gix_commitgraph.proofs.opening.chain.open_lines.Goals as goal
 
 pub loop-line-preserved : goal.loop-line-preserved
