@@ -24,7 +24,7 @@ use std::marker::Model;
 
 /// How many objects may be asked for before their entries are taken. Their lines, and what Git
 /// answers first, fit into the pipes between two programs.
-pub const MOST_WAITING: usize = 64;
+const MOST_WAITING: usize = 64;
 
 /// How many bytes the line of the longest id has.
 const LONGEST_REQUEST: usize = 65;
@@ -94,6 +94,13 @@ impl Requests {
         ensures distinct { AreDistinct self.now.asked }
     {
         self.asked.len() - self.taken
+    }
+
+    /// Whether one more object may be asked for before an entry is taken.
+    pub fn has_room(&self) -> bool
+        ensures { IsTrue result ↔ (length (waiting self.now) < most_waiting) }
+    {
+        self.num_waiting() < MOST_WAITING
     }
 
     /// The number of an object among those that were asked for, counted from 0.
