@@ -13,14 +13,17 @@ use Rattle.graph_walks.specs.Counts.{greatest}
 use Rattle.graph_walks.specs.History.{Node, generation_at}
 use Rattle.newer_commits.specs.CommitsOnTop.{AreAfterParents, CommitsOnTop, NewerCommit, end_of_top, newer_commit, nodes_on_top}
 use Rattle.newer_commits.specs.JoinedHistory.{AreNumberedOnTop, joined_history}
+use Rattle.newer_commits.proofs.FoundLemmas.{found_there}
 use Rattle.newer_commits.proofs.HistoryLemmas.{numbered_pushed}
-use Rattle.newer_commits.specs.Adding.{Adds, AreThere, IsAbsent, IsAddRefusal}
+use Rattle.newer_commits.specs.Adding.{AddsCommit, AreThere, IsNewCommit, IsAddRefusal}
 use Rattle.newer_commits.specs.Finding.{Finds}
-use Rattle.newer_commits.specs.FoundParents.{AreFoundParents, IsOneParentRefusal, IsParentRefusal, IsPushed, IsPushRefusal}
+use Rattle.newer_commits.specs.FoundParents.{AreFoundParents, IsOneParentRefusal, IsParentRefusal, IsPrepared, IsPushed}
+use Rattle.newer_commits.specs.FoundParents.{IsPushRefusal}
 use Rattle.newer_commits.specs.Room.{IsFull}
 use Rattle.newer_commits.specs.declared.error.AddError.{AddError}
 use Rattle.newer_commits.specs.declared.error.AddError.TheVariants as refusal
 use Rattle.newer_commits.specs.declared.found.FoundParents.{FoundParents}
+use Rattle.newer_commits.specs.declared.found.Prepared.{Prepared}
 
 module _ {E : Type 0} (base : List ℕ → Option ℕ → Type 0) (may_fail : E → Type 0) (top : CommitsOnTop) where
   -- the first parent that is not there
@@ -37,7 +40,7 @@ module _ {E : Type 0} (base : List ℕ → Option ℕ → Type 0) (may_fail : E 
   first_refused ids n id there at refusal.OutOfMemory is = absurd is
   first_refused ids n id there at (refusal.Source error) is = is
 
-  module _ (kind : Kind) (contents : List ℕ) (said : Said) (absent : IsAbsent kind base top contents said) where
+  module _ (kind : Kind) (contents : List ℕ) (said : Said) (absent : IsNewCommit kind base top contents said) where
     pub parent_refused : (e : AddError E) → IsParentRefusal base may_fail top said.parents e
         → IsAddRefusal kind base may_fail top contents e
     parent_refused refusal.Unreadable is = absurd is
@@ -59,7 +62,7 @@ module _ {E : Type 0} (base : List ℕ → Option ℕ → Type 0) (may_fail : E 
 
 pub adds_from : (kind : Kind) (base : List ℕ → Option ℕ → Type 0) (old new : CommitsOnTop) (contents : List ℕ) (said : Said)
     (id : List ℕ) (at : ℕ) → id ≡ object_id_of kind contents → Says kind contents said → Finds base old id None
-    → IsPushed base old new said.parents id at → Adds kind base old new contents at
+    → IsPushed base old new said.parents id at → AddsCommit kind base old new contents at
 adds_from kind base old new contents said id at is_id says is_new pushed = record {
   commit = newer_commit id pushed.generation pushed.places;
   is_commit = record { id = is_id; is_new = is_new; said = said; says = says; parents = pushed.each };
@@ -78,6 +81,37 @@ pub found_many : (base : List ℕ → Option ℕ → Type 0) (says : Told → Ty
     (found : FoundParents) → AreFoundParents base says top ids found → found.count ≡ length ids
 found_many base says top ids found are =
     are.count ∙ sym (length_zip (λ (id : List ℕ) (p : ℕ). Finds base top id (Some p)) ids are.places are.each)
+
+-- a commit that was prepared
+
+module _ (kind : Kind) (base : List ℕ → Option ℕ → Type 0) (says : Told → Type 0) (top new : CommitsOnTop) (contents : List ℕ)
+    (prepared : Prepared) (is : IsPrepared kind base says top contents prepared) where
+  absent_id : Finds base top prepared.id None
+  absent_id = subst (λ (x : List ℕ). Finds base top x None) (sym is.id) is.absent.is_new
+
+  adds_prepared : (at : ℕ) → IsPushed base top new is.said.parents prepared.id at → AddsCommit kind base top new contents at
+  adds_prepared at pushed =
+      adds_from kind base top new contents is.said prepared.id at is.id is.absent.says absent_id pushed
+
+pub prepared_absent : (kind : Kind) (base : List ℕ → Option ℕ → Type 0) (says : Told → Type 0) (top : CommitsOnTop)
+    (contents : List ℕ) (prepared : Prepared) → IsPrepared kind base says top contents prepared
+    → Finds base top prepared.id None
+prepared_absent kind base says top contents prepared is = absent_id kind base says top top contents prepared is
+
+pub prepared_adds : (kind : Kind) (base : List ℕ → Option ℕ → Type 0) (says : Told → Type 0) (top new : CommitsOnTop)
+    (contents : List ℕ) (prepared : Prepared) (is : IsPrepared kind base says top contents prepared) (at : ℕ)
+    → IsPushed base top new is.said.parents prepared.id at → AddsCommit kind base top new contents at
+prepared_adds kind base says top new contents prepared is at pushed =
+    adds_prepared kind base says top new contents prepared is at pushed
+
+pub prepared_refused : {E : Type 0} (kind : Kind) (base : List ℕ → Option ℕ → Type 0) (may_fail : E → Type 0)
+    (says : Told → Type 0) (top : CommitsOnTop) (contents : List ℕ) (prepared : Prepared)
+    → IsPrepared kind base says top contents prepared → (e : AddError E) → IsPushRefusal top prepared.found.count e
+    → IsAddRefusal kind base may_fail top contents e
+prepared_refused kind base may_fail says top contents prepared is e refused =
+    push_refused base may_fail top kind contents is.said is.absent prepared.found.count
+    (found_there base says top is.said.parents prepared.found is.found)
+    (found_many base says top is.said.parents prepared.found is.found) e refused
 
 pub ok_or_err : {T E : Type 0} (r : Result T E) (P Q : Type 0) → OnOk r P → OnErr r Q → P ⊎ Q
 ok_or_err (Ok x) P Q p q = inl p

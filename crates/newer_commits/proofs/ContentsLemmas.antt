@@ -18,7 +18,7 @@ use Rattle.commit_objects.proofs.ParentLemmas.{says_one}
 use Rattle.graph_objects.specs.CommitWalks.{CommitsLead, IsCommitWalk, NamesParent}
 use Rattle.newer_commits.specs.CommitsOnTop.{CommitsOnTop, NewerCommit, before_newer, ids_on_top, nodes_on_top, StandsOnTop}
 use Rattle.newer_commits.specs.Finding.{Finds}
-use Rattle.newer_commits.specs.Adding.{IsCommitOf, Adds}
+use Rattle.newer_commits.specs.Adding.{IsCommitOf, AddsCommit}
 use Rattle.newer_commits.specs.CommitsOf.{AnswersOnce, AreCommitsOf, newer_id}
 use Rattle.newer_commits.specs.JoinedHistory.{joined_history}
 use Rattle.newer_commits.proofs.HistoryLemmas.{joined_length, parents_above, path_above}
@@ -120,7 +120,7 @@ commit_alike kind finds one other bytes commit below ids is = record {
 -- one more commit
 
 module _ (kind : Kind) (finds : List ℕ → Option ℕ → Type 0) (old new : CommitsOnTop) (contents : List (List ℕ)) (bytes : List ℕ)
-    (pos : ℕ) (are : AreCommitsOf kind finds old contents) (adds : Adds kind finds old new bytes pos) where
+    (pos : ℕ) (are : AreCommitsOf kind finds old contents) (adds : AddsCommit kind finds old new bytes pos) where
   ids_of_first : (i : ℕ) → i ≤ length old.commits → ids_on_top (before_newer i old) ≡ ids_on_top (before_newer i new)
   ids_of_first i le =
       ap (λ (cs : List NewerCommit). map (λ (c : NewerCommit). c.id) cs)

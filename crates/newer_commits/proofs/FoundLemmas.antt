@@ -26,7 +26,7 @@ zip_push R [] (z ∷ ys) x y zip last = absurd zip
 zip_push R (w ∷ xs) [] x y zip last = absurd zip
 zip_push R (w ∷ xs) (z ∷ ys) x y zip last = (zip.0, zip_push R xs ys x y zip.1 last)
 
-greatest_push : (ns : List ℕ) (n : ℕ) → greatest (ns ++ n ∷ []) ≡ max (greatest ns) n
+pub greatest_push : (ns : List ℕ) (n : ℕ) → greatest (ns ++ n ∷ []) ≡ max (greatest ns) n
 greatest_push [] n = omega (arith, greatest-cons n [])
 greatest_push (m ∷ ns) n = omega (arith, greatest-cons m (ns ++ n ∷ []), greatest-cons m ns, greatest_push ns n)
 

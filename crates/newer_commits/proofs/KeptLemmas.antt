@@ -22,7 +22,7 @@ use Rattle.newer_commits.specs.CommitsOnTop.{newer_commit}
 use Rattle.newer_commits.specs.CommitsOnTop.{CommitsOnTop, NewerCommit, ids_on_top, nodes_on_top, AreAfterParents}
 use Rattle.newer_commits.specs.Room.{IsFull}
 use Rattle.newer_commits.specs.Stored.{fields_name, AreWhole, commit_of, stored_ids, IsWellKept, AreNumbersOf}
-use Rattle.newer_commits.specs.Stored.{AreKept, kept_value, IsKeptAt, AreFieldsOnTop}
+use Rattle.newer_commits.specs.Stored.{AreWellKept, kept_value, IsKeptAt, AreFieldsOnTop}
 use Rattle.newer_commits.specs.declared.commits.Stored.{Stored}
 use Rattle.newer_commits.proofs.ListedLemmas.{whole_kept, fields_kept}
 
@@ -116,7 +116,7 @@ ids_kept below (s ∷ commits) words = ap (λ (ids : List (List ℕ)). s.id ∷ 
 -- with one more commit
 
 module _ (below : ℕ) (numbers after : tree.BTreeMap (List ℕ) ℕ) (commits : List Stored) (words more : List ℕ) (s : Stored)
-    (kept : AreKept below numbers commits words) (whole : AreWhole (words ++ more) s.fields)
+    (kept : AreWellKept below numbers commits words) (whole : AreWhole (words ++ more) s.fields)
     (before : (q : ℕ) → Contains (fields_name (words ++ more) s.fields) q → q < below + length commits)
     (updates : tree.Updates (slice_cmp nat_cmp) numbers after s.id (Some (length commits)))
     (room : below + length commits < 0x70000000) (short : length (words ++ more) < 4294967296) where
@@ -135,7 +135,7 @@ module _ (below : ℕ) (numbers after : tree.BTreeMap (List ℕ) ℕ) (commits :
   counted : length (stored_ids commits) ≡ length commits
   counted = length-map commits (λ (x : Stored). x.id)
 
-  pub kept_pushed : AreKept below after (commits ++ s ∷ []) (words ++ more)
+  pub kept_pushed : AreWellKept below after (commits ++ s ∷ []) (words ++ more)
   kept_pushed = record {
     each = well_kept_pushed;
     numbered =
@@ -148,7 +148,7 @@ module _ (below : ℕ) (numbers after : tree.BTreeMap (List ℕ) ℕ) (commits :
   }
 
 pub commits_pushed : (below : ℕ) (numbers : tree.BTreeMap (List ℕ) ℕ) (commits : List Stored) (words more : List ℕ) (s : Stored)
-    → AreKept below numbers commits words → (id : List ℕ) (generation : ℕ) (parents : List ℕ) → s.id ≡ id
+    → AreWellKept below numbers commits words → (id : List ℕ) (generation : ℕ) (parents : List ℕ) → s.id ≡ id
     → s.generation ≡ generation → fields_name (words ++ more) s.fields ≡ parents
     → map (commit_of (words ++ more)) (commits ++ s ∷ [])
     ≡ map (commit_of words) commits ++ newer_commit id generation parents ∷ []
@@ -167,7 +167,7 @@ commits_pushed below numbers commits words more s kept id generation parents is_
 -- what is told of one
 
 module _ (below : ℕ) (numbers : tree.BTreeMap (List ℕ) ℕ) (commits : List Stored) (words : List ℕ)
-    (kept : AreKept below numbers commits words) where
+    (kept : AreWellKept below numbers commits words) where
   pub kept_at : (i : ℕ) (s : Stored) → slice_get commits i ≡ Some s → IsKeptAt (kept_value below commits words) i s
   kept_at i s at =
       (slice_get-map (commit_of words) commits i ∙ ap (λ o. option_map (commit_of words) o) at, kept.each i s at)
@@ -223,7 +223,7 @@ kept_fields top i s at = record {
 
 -- the lookup of an id
 module _ (below : ℕ) (numbers : tree.BTreeMap (List ℕ) ℕ) (commits : List Stored) (words : List ℕ)
-    (kept : AreKept below numbers commits words) (id : List ℕ) where
+    (kept : AreWellKept below numbers commits words) (id : List ℕ) where
   pub not_there : tree.get (slice_cmp nat_cmp) numbers id ≡ None → ¬ Contains (ids_on_top (kept_value below commits words)) id
   not_there none = λ contained.
       MatchOption-at_none (¬ Contains (stored_ids commits) id) (λ i. slice_get (stored_ids commits) i ≡ Some id) none
@@ -242,7 +242,7 @@ module _ (below : ℕ) (numbers : tree.BTreeMap (List ℕ) ℕ) (commits : List 
 
 -- where nothing has changed but how the map lies in memory
 pub kept_same : (below : ℕ) (numbers after : tree.BTreeMap (List ℕ) ℕ) (commits : List Stored) (words : List ℕ)
-    → AreKept below numbers commits words → after.entries ≡ numbers.entries → AreKept below after commits words
+    → AreWellKept below numbers commits words → after.entries ≡ numbers.entries → AreWellKept below after commits words
 kept_same below numbers after commits words kept same = record {
   each = kept.each;
   numbered = λ id.

@@ -21,7 +21,7 @@ pub record IsCommitOf (kind : Kind) (base : List ℕ → Option ℕ → Type 0) 
   pub parents : AllZip (λ parent p. Finds base before parent (Some p)) said.parents commit.node.parents
 
 -- The commit with these contents was added, at this position, and all else is as before.
-pub record Adds (kind : Kind) (base : List ℕ → Option ℕ → Type 0) (old new : CommitsOnTop) (contents : List ℕ) (at : ℕ)
+pub record AddsCommit (kind : Kind) (base : List ℕ → Option ℕ → Type 0) (old new : CommitsOnTop) (contents : List ℕ) (at : ℕ)
     : Type 0 where
   pub commit : NewerCommit
   pub is_commit : IsCommitOf kind base old contents commit
@@ -34,7 +34,7 @@ abbrev pub AreThere : (List ℕ → Option ℕ → Type 0) → CommitsOnTop → 
 AreThere base top ids = All (λ id. (p : ℕ) × Finds base top id (Some p)) ids
 
 -- The contents are a commit that is not there.
-pub record IsAbsent (kind : Kind) (base : List ℕ → Option ℕ → Type 0) (top : CommitsOnTop) (contents : List ℕ) (said : Said)
+pub record IsNewCommit (kind : Kind) (base : List ℕ → Option ℕ → Type 0) (top : CommitsOnTop) (contents : List ℕ) (said : Said)
     : Type 0 where
   pub says : Says kind contents said
   pub is_new : Finds base top (object_id_of kind contents) None
@@ -46,11 +46,11 @@ IsAddRefusal kind base may_fail top contents refusal.Unreadable = (said : Said) 
 IsAddRefusal kind base may_fail top contents (refusal.Known pos) =
     (said : Said) × Says kind contents said × Finds base top (object_id_of kind contents) (Some pos.0)
 IsAddRefusal kind base may_fail top contents (refusal.Parent index id) =
-    (said : Said) × IsAbsent kind base top contents said × AreThere base top (take index said.parents)
+    (said : Said) × IsNewCommit kind base top contents said × AreThere base top (take index said.parents)
     × (slice_get said.parents index ≡ Some id) × Finds base top id None
 IsAddRefusal kind base may_fail top contents refusal.Full =
-    (said : Said) × IsAbsent kind base top contents said × AreThere base top said.parents × IsFull top (length said.parents)
+    (said : Said) × IsNewCommit kind base top contents said × AreThere base top said.parents × IsFull top (length said.parents)
 IsAddRefusal kind base may_fail top contents refusal.OutOfMemory =
-    (said : Said) × IsAbsent kind base top contents said × AreThere base top said.parents
+    (said : Said) × IsNewCommit kind base top contents said × AreThere base top said.parents
     × (¬ IsFull top (length said.parents))
 IsAddRefusal kind base may_fail top contents (refusal.Source error) = may_fail error

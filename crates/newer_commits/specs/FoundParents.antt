@@ -3,17 +3,22 @@ use Rattle.std.specs.Prelude.{◌≡◌, ◌<◌, ℕ, List, [], ◌∷◌, ◌+
 use Rattle.std.specs.Prelude.{None}
 use Rattle.std.specs.Prelude.{IfSome}
 use Rattle.std.specs.List.{AllZip}
+use Rattle.gix_hash_core.specs.declared.kind.Kind.{Kind}
 use Rattle.graph_walks.specs.Counts.{greatest}
 use Rattle.graph_walks.specs.History.{generation_at}
+use Rattle.commit_objects.specs.CommitContents.{Said}
+use Rattle.commit_objects.specs.Object.{object_id_of}
+use Rattle.commit_objects.specs.Time.{newer_time}
 use Rattle.commit_search.specs.Source.{Told}
 use Rattle.newer_commits.specs.CommitsOnTop.{CommitsOnTop, newer_commit, end_of_top, nodes_on_top}
 use Rattle.newer_commits.specs.Finding.{Finds}
 use Rattle.newer_commits.specs.JoinedHistory.{joined_history}
-use Rattle.newer_commits.specs.Adding.{AreThere}
+use Rattle.newer_commits.specs.Adding.{AreThere, IsNewCommit}
 use Rattle.newer_commits.specs.Room.{IsFull}
 use Rattle.newer_commits.specs.declared.error.AddError.{AddError}
 use Rattle.newer_commits.specs.declared.error.AddError.TheVariants as refusal
 use Rattle.newer_commits.specs.declared.found.FoundParents.{FoundParents}
+use Rattle.newer_commits.specs.declared.found.Prepared.{Prepared}
 
 -- Each of the ids is found, and the greatest generation number of those commits is this one, in all that the base may say.
 pub record AreFoundParents (base : List ℕ → Option ℕ → Type 0) (says : Told → Type 0) (top : CommitsOnTop) (ids : List (List ℕ))
@@ -25,6 +30,15 @@ pub record AreFoundParents (base : List ℕ → Option ℕ → Type 0) (says : T
   pub count : found.count ≡ length places
   pub number : (t : Told) → says t
       → found.greatest ≡ greatest (map (generation_at (joined_history t.history (nodes_on_top top))) places)
+
+-- The contents are a commit that is not there, with this id and this time, and its parents are found so.
+pub record IsPrepared (kind : Kind) (base : List ℕ → Option ℕ → Type 0) (says : Told → Type 0) (top : CommitsOnTop)
+    (contents : List ℕ) (prepared : Prepared) : Type 0 where
+  pub said : Said
+  pub absent : IsNewCommit kind base top contents said
+  pub id : prepared.id ≡ object_id_of kind contents
+  pub time : prepared.time ≡ newer_time said.rest
+  pub found : AreFoundParents base says top said.parents prepared.found
 
 -- this parent, which has this number, is not there, or a read failed
 abbrev pub IsOneParentRefusal : {E : Type 0} → (List ℕ → Option ℕ → Type 0) → (E → Type 0) → CommitsOnTop → ℕ → List ℕ

@@ -7,3 +7,4 @@ pub mod CommitsOf
 pub mod FoundParents
 pub mod Stored
 pub mod SameKnowledge
+pub mod JoinedDates

@@ -51,7 +51,7 @@ AreNumbersOf numbers ids =
     (λ i. slice_get ids i ≡ Some id)
 
 -- What holds of newer commits as they are kept.
-pub record AreKept (below : ℕ) (numbers : tree.BTreeMap (List ℕ) ℕ) (commits : List Stored) (words : List ℕ) : Type 0 where
+pub record AreWellKept (below : ℕ) (numbers : tree.BTreeMap (List ℕ) ℕ) (commits : List Stored) (words : List ℕ) : Type 0 where
   pub each : (i : ℕ) (s : Stored) → slice_get commits i ≡ Some s → IsWellKept words (below + i) s
   pub numbered : AreNumbersOf numbers (stored_ids commits)
   pub few : AreFewEnough below (length commits)

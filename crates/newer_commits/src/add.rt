@@ -1,17 +1,19 @@
 //! Adding a commit on top of a base.
 
 ghost use Rattle.std.specs.Prelude.{◌≡◌, ◌+◌, ◌<◌, ◌≤◌, ◌++◌, ◌∷◌, ◌^◌, [], ℕ, List, IfErr, IfOk};
-ghost use Rattle.std.specs.Prelude.{None, OnErr};
+ghost use Rattle.std.specs.Prelude.{None, OnErr, OnOk, IsSomeAnd};
 ghost use Rattle.std.specs.Prelude.{length};
 ghost use Rattle.commit_search.specs.Source.{Told};
-ghost use Rattle.newer_commits.specs.Adding.{Adds, IsAddRefusal};
+ghost use Rattle.newer_commits.specs.Adding.{AddsCommit, IsAddRefusal};
 ghost use Rattle.newer_commits.specs.Finding.{Finds};
+ghost use Rattle.newer_commits.specs.CommitsOnTop.{newer_commit};
 ghost use Rattle.newer_commits.specs.FoundParents.{AreFoundParents, IsOneParentRefusal};
-ghost use Rattle.newer_commits.specs.FoundParents.{IsParentRefusal, IsPushRefusal, IsPushed};
+ghost use Rattle.newer_commits.specs.FoundParents.{IsParentRefusal, IsPrepared, IsPushRefusal};
+ghost use Rattle.newer_commits.specs.FoundParents.{IsPushed};
 
 use crate::base::Base;
 use crate::error::AddError;
-use crate::found::{FoundParents, with_one};
+use crate::found::{FoundParents, Prepared, with_one};
 use crate::newer::Newer;
 use commit_objects::{CommitObject, Parents, object_id};
 use commit_search::CommitSource;
@@ -30,13 +32,40 @@ impl<S: Base> Newer<S> {
         ensures known { S.known self.new.base ≡ S.known self.old.base }
         ensures kept { (t : Told) → S.says self.new.base t → S.says self.old.base t }
         ensures kind { self.new.kind ≡ self.old.kind }
-        ensures added { IfOk result (λ pos. Adds self.old.kind
+        ensures added { IfOk result (λ pos. AddsCommit self.old.kind
             (S.finds (S.facts self.old.base)) self.old.commits self.new.commits
             contents.now pos.0) }
         ensures refused { IfErr result (IsAddRefusal self.old.kind
             (S.finds (S.facts self.old.base)) (S.may_fail (S.known self.old.base))
             self.old.commits contents.now) }
         ensures same { OnErr result (self.new.commits ≡ self.old.commits) }
+    {
+        match self.prepare(alloc, contents) {
+            Ok(prepared) => self.push(prepared.id, prepared.found),
+            Err(error) => Err(error),
+        }
+    }
+
+    /// What is known of the commit with these contents, which is to be added.
+    ///
+    /// # Errors
+    ///
+    /// `Unreadable`, `Known`, `Parent` and `Source`, as in [`Newer::add`].
+    pub(crate) fn prepare(
+        &mut self,
+        alloc: Global,
+        contents: &[u8],
+    ) -> Result<Prepared, AddError<S::Error>>
+        ensures known { S.known self.new.base ≡ S.known self.old.base }
+        ensures kept { (t : Told) → S.says self.new.base t → S.says self.old.base t }
+        ensures kind { self.new.kind ≡ self.old.kind }
+        ensures same { self.new.commits ≡ self.old.commits }
+        ensures prepared { IfOk result (IsPrepared self.old.kind
+            (S.finds (S.facts self.old.base)) (S.says self.new.base) self.old.commits
+            contents.now) }
+        ensures refused { IfErr result (IsAddRefusal self.old.kind
+            (S.finds (S.facts self.old.base)) (S.may_fail (S.known self.old.base))
+            self.old.commits contents.now) }
     {
         let Ok(commit) = CommitObject::parse(self.kind, contents) else {
             return Err(AddError::Unreadable);
@@ -47,8 +76,9 @@ impl<S: Base> Newer<S> {
             Ok(Some(pos)) => return Err(AddError::Known(pos)),
             Err(error) => return Err(AddError::Source(error)),
         }
+        let time = commit.newer_time();
         match self.find_parents(alloc, commit.parents(), contents.len()) {
-            Ok(found) => self.push(id, found),
+            Ok(found) => Ok(Prepared { id, time, found }),
             Err(error) => Err(error),
         }
     }
@@ -137,7 +167,11 @@ impl<S: Base> Newer<S> {
     /// # Errors
     ///
     /// `Full`, or `OutOfMemory` where an allocation failed.
-    fn push(&mut self, id: ObjectId, found: FoundParents) -> Result<Position, AddError<S::Error>>
+    pub(crate) fn push(
+        &mut self,
+        id: ObjectId,
+        found: FoundParents,
+    ) -> Result<Position, AddError<S::Error>>
         requires absent { Finds (S.finds (S.facts self.old.base)) self.old.commits id None }
         requires found { (ids : List (List ℕ)) × AreFoundParents
             (S.finds (S.facts self.old.base)) (S.says self.old.base) self.old.commits ids found }
@@ -147,6 +181,9 @@ impl<S: Base> Newer<S> {
             (S.finds (S.facts self.old.base)) (S.says self.old.base) self.old.commits ids found
             → IsPushed (S.finds (S.facts self.old.base)) self.old.commits self.new.commits ids id
             pos.0) }
+        ensures parents { OnOk result (IsSomeAnd found.positions (λ parents.
+            (generation : ℕ) × (self.new.commits.commits ≡ self.old.commits.commits
+            ++ newer_commit id generation parents.items ∷ []))) }
         ensures refused { IfErr result (IsPushRefusal self.old.commits found.count) }
         ensures same { OnErr result (self.new.commits ≡ self.old.commits) }
     {

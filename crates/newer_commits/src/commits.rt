@@ -49,11 +49,11 @@ impl Model for NewerCommits {
 
     ghost Value = { CommitsOnTop };
 
-    ghost use Rattle.newer_commits.specs.Stored.{AreKept, kept_value};
+    ghost use Rattle.newer_commits.specs.Stored.{AreWellKept, kept_value};
 
     ghost view = { λ a. kept_value a.below a.commits.items a.words.items };
 
-    ghost invariant = { λ a. AreKept a.below a.numbers a.commits.items a.words.items };
+    ghost invariant = { λ a. AreWellKept a.below a.numbers a.commits.items a.words.items };
 }
 
 impl NewerCommits {

@@ -2,6 +2,8 @@
 
 ghost use Rattle.std.specs.Prelude.{◌≡◌, ◌++◌, ◌∷◌, [], IfSome, IsSomeAnd};
 
+use gix_hash_core::ObjectId;
+
 /// What is found of the parents of a commit.
 #[derive(Drop)]
 pub(crate) struct FoundParents {
@@ -11,6 +13,16 @@ pub(crate) struct FoundParents {
     pub(crate) count: usize,
     /// The greatest of their generation numbers, 0 where there are none.
     pub(crate) greatest: u32,
+}
+
+/// A commit that is not there, and whose parents are.
+#[derive(Drop)]
+pub(crate) struct Prepared {
+    pub(crate) id: ObjectId,
+    /// The committer's time, as Git from 2.41 on reads it.
+    pub(crate) time: u64,
+    /// What is found of its parents.
+    pub(crate) found: FoundParents,
 }
 
 /// Positions with one more, or `None` where there are none or an allocation failed.

@@ -4,10 +4,12 @@ ghost use Rattle.std.specs.Prelude.{◌≡◌, ◌↔◌, ◌+◌, ◌<◌, ◌+
 ghost use Rattle.gix_hash_core.specs.declared.kind.Kind.{Kind};
 ghost use Rattle.graph_walks.specs.History.{IsParent, Node};
 ghost use Rattle.graph_walks.specs.Walks.{CountWalks, IsWalkBetween, Reaches};
+ghost use Rattle.graph_bases.specs.Ranks.{FallsAlongParents, by_date};
 ghost use Rattle.graph_objects.specs.CommitWalks.{CommitsLead};
-ghost use Rattle.newer_commits.specs.Adding.{Adds};
+ghost use Rattle.newer_commits.specs.Adding.{AddsCommit};
 ghost use Rattle.newer_commits.specs.CommitsOf.{AnswersOnce, AreCommitsOf, newer_id};
-ghost use Rattle.newer_commits.specs.CommitsOnTop.{CommitsOnTop, nodes_on_top};
+ghost use Rattle.newer_commits.specs.CommitsOnTop.{AreAfterParents, CommitsOnTop, nodes_on_top};
+ghost use Rattle.newer_commits.specs.JoinedDates.{DatesOnTop, FallOnTop, all_dates};
 ghost use Rattle.newer_commits.specs.JoinedHistory.{AreNumberedOnTop, joined_history};
 
 use crate::base::Base;
@@ -17,6 +19,15 @@ use crate::base::Base;
 pub fn right_numbers_stay_right()
     ensures { (base newer : List Node) → CountWalks base → AreNumberedOnTop base newer
         → CountWalks (joined_history base newer) }
+{}
+
+/// Where the dates of the base fall along all parents, as right corrected dates do, so do those of
+/// the base and the newer commits together.
+pub fn dates_fall_along_all_parents()
+    ensures { (base : List Node) (top : CommitsOnTop) (dates : DatesOnTop)
+        → length base ≡ top.below → FallOnTop top dates → AreAfterParents top
+        → FallsAlongParents base (by_date dates.below)
+        → FallsAlongParents (joined_history base (nodes_on_top top)) (by_date (all_dates dates)) }
 {}
 
 /// Commits of the base have the parents and the walks that they have without newer commits.
@@ -52,6 +63,6 @@ pub fn added_commits_are_those_with_their_contents<S: Base>()
     ensures one_more { (kind : Kind) (facts : S.Facts)
         (old new : CommitsOnTop) (contents : List (List ℕ)) (bytes : List ℕ) (pos : ℕ)
         → AreCommitsOf kind (S.finds facts) old contents
-        → Adds kind (S.finds facts) old new bytes pos
+        → AddsCommit kind (S.finds facts) old new bytes pos
         → AreCommitsOf kind (S.finds facts) new (contents ++ bytes ∷ []) }
 {}

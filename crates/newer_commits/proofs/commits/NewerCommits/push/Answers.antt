@@ -3,7 +3,7 @@ use Rattle.std.proofs.Common.{sym, take}
 use Rattle.std.proofs.lemmas.List.{length-append, length-map, take_at}
 use Rattle.std.proofs.lemmas.List.Elements.{All-contains}
 use Rattle.newer_commits.specs.CommitsOnTop.{CommitsOnTop, newer_commit}
-use Rattle.newer_commits.specs.Stored.{AreKept, AreWhole, commit_of, fields_name}
+use Rattle.newer_commits.specs.Stored.{AreWellKept, AreWhole, commit_of, fields_name}
 use Rattle.newer_commits.specs.declared.commits.Stored.{Stored}
 use Rattle.newer_commits.proofs.KeptLemmas.{commits_pushed, kept_pushed, kept_same, room_left}
 use Rattle.newer_commits.proofs.commits.NewerCommits.push.Goals as goal
@@ -35,8 +35,8 @@ invariant_of-self-in-Ok c =
     omega (arith, length-append words more, c.in_ok-fields.ensures.more.2, left.1, same_words) in
     let kept = kept_pushed below c.self.inside.numbers c.keep.new.numbers commits words more stored c.self.invariant whole before
     c.in-Ok.ensures.numbers room short in
-    subst (λ (ws : List ℕ). AreKept below c.keep.new.numbers c.keep.new.commits.items ws) (sym grown)
-    (subst (λ (cs : List Stored). AreKept below c.keep.new.numbers cs (words ++ more)) (sym c.in-Ok.ensures.commits) kept)
+    subst (λ (ws : List ℕ). AreWellKept below c.keep.new.numbers c.keep.new.commits.items ws) (sym grown)
+    (subst (λ (cs : List Stored). AreWellKept below c.keep.new.numbers cs (words ++ more)) (sym c.in-Ok.ensures.commits) kept)
 
 pub invariant_of-self-in-Err : goal.invariant_of-self-in-Err
 invariant_of-self-in-Err c =
@@ -48,8 +48,8 @@ invariant_of-self-in-Err c =
     let cut : c.truncate.new.self.items ≡ words =
     c.truncate.ensures.items ∙ ap (λ (ws : List ℕ). take c.len-before.result ws) grown
     ∙ take_at words more c.len-before.result (sym size) in
-    subst (λ (ws : List ℕ). AreKept below c.keep.new.numbers c.keep.new.commits.items ws) (sym cut)
-    (subst (λ (cs : List Stored). AreKept below c.keep.new.numbers cs words) (sym c.in-Err.ensures.commits_err)
+    subst (λ (ws : List ℕ). AreWellKept below c.keep.new.numbers c.keep.new.commits.items ws) (sym cut)
+    (subst (λ (cs : List Stored). AreWellKept below c.keep.new.numbers cs words) (sym c.in-Err.ensures.commits_err)
     (kept_same below c.self.inside.numbers c.keep.new.numbers c.self.inside.commits.items words c.self.invariant
     c.in-Err.ensures.numbers_err))
 
