@@ -4,6 +4,7 @@ ghost use Rattle.std.specs.Prelude.{◌≡◌, ◌⊎◌, ◌<◌, [], All, IfEr
 ghost use Rattle.std.specs.Prelude.{alloc_error};
 ghost use Rattle.commit_search.specs.Positions.{numbers_of};
 ghost use Rattle.commit_search.specs.Source.{Told};
+ghost use Rattle.graph_bases.specs.Bases.{IsCommonAncestor};
 ghost use Rattle.graph_bases.specs.Comparison.{IsComparisonBy};
 ghost use Rattle.graph_bases.specs.Ranks.{FallsAlongParents, by_date};
 ghost use Rattle.newer_commits.specs.Adding.{AddsCommit, IsAddRefusal};
@@ -94,7 +95,7 @@ impl<'d, S: Base> DatedCommits<'d, S> {
 
     /// The merge bases of a commit and some others, and how far they have come apart, at positions
     /// below the source's `num_commits()`. The search visits the commits with the latest dates
-    /// first.
+    /// first. Whatever the dates are, each merge base that it answers is a common ancestor.
     ///
     /// # Errors
     ///
@@ -111,6 +112,13 @@ impl<'d, S: Base> DatedCommits<'d, S> {
         ensures known { S.known self.new.commits.base ≡ S.known self.old.commits.base }
         ensures commits { self.new.commits.commits ≡ self.old.commits.commits }
         ensures dates { self.new.dates ≡ self.old.dates }
+        ensures within { IfOk result (λ comparison.
+            All (λ base. base.0 < end_of_top self.old.commits.commits)
+            comparison.bases.positions.items) }
+        ensures common { IfOk result (λ comparison. (t : Told)
+            → S.says self.new.commits.base t → All (λ base. IsCommonAncestor
+            (joined_history t.history (nodes_on_top self.old.commits.commits))
+            first.0 (numbers_of others.now) base.0) comparison.bases.positions.items) }
         ensures exact { IfOk result (λ comparison. (t : Told) → S.says self.new.commits.base t
             → FallsAlongParents t.history (by_date self.old.dates.below)
             → IsComparisonBy (joined_history t.history (nodes_on_top self.old.commits.commits))
