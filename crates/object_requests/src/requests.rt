@@ -1,6 +1,7 @@
 //! Asking for objects, and taking their entries.
 
-ghost use Rattle.std.specs.Prelude.{◌≡◌, ◌↔◌, ◌+◌, ◌^◌, ◌<◌, ◌≤◌, ◌*◌, ◌∷◌, ◌++◌, [], false, true, length};
+ghost use Rattle.std.specs.Prelude.{◌≡◌, ◌↔◌, ◌+◌, ◌^◌, ◌<◌, ◌≤◌, ◌*◌, ◌∷◌, ◌++◌};
+ghost use Rattle.std.specs.Prelude.{[], false, true, length};
 ghost use Rattle.std.specs.Prelude.{Contains, Err, IfErr, IfOk, IfSome, IsTrue, MatchOption, OnErr};
 ghost use Rattle.std.specs.Prelude.{OnOk, Some, drop, slice_get, take};
 ghost use Rattle.std.specs.Io.KnownBytes.{Appends, Consumes, Keeps, prepend_known};
@@ -61,7 +62,8 @@ impl Model for Requests {
       ahead = drop r.front r.buffer;
     } };
 
-    ghost invariant = { λ r. (r.front ≤ length r.buffer) × AreKept r.asked.items r.taken r.numbers };
+    ghost invariant = { λ r. (r.front ≤ length r.buffer)
+        × AreKept r.asked.items r.taken r.numbers };
 }
 
 impl Requests {

@@ -30,7 +30,8 @@ pub struct Entry {
 }
 
 /// Reads the next entry, that of an object of this type whose id is of this kind and, where one is
-/// given, the expected one. Its line is taken away from the buffer, so that the contents stand at the front.
+/// given, the expected one. Its line is taken away from the buffer, so that the contents stand at
+/// the front.
 ///
 /// # Errors
 ///

@@ -45,7 +45,8 @@ pub const TAKEN: &[Taken] = &[
         ObjectType::Tree,
         "10731d0b170b98481a00bdca161e874e0ab93377\n",
         b"10731d0b170b98481a00bdca161e874e0ab93377 tree 29\n\
-        100644 f\0\xce\x01\x36\x25\x03\x0b\xa8\xdb\xa9\x06\xf7\x56\x96\x7f\x9e\x9c\xa3\x94\x46\x4a\n",
+        100644 f\0\xce\x01\x36\x25\x03\x0b\xa8\xdb\xa9\x06\xf7\x56\x96\x7f\x9e\
+        \x9c\xa3\x94\x46\x4a\n",
     ),
     (
         Kind::Sha1,
