@@ -1,5 +1,5 @@
 -- What filters answer along paths.
-use Rattle.std.proofs.Common.{◌≡◌, ◌≢◌, ℕ, ◌+◌, ◌*◌, ◌/◌, ◌%◌, ◌<◌, ◌≤◌, List, [], ◌∷◌, Option, Some, None, length, get_or, take}
+use Rattle.std.proofs.Common.{◌≡◌, ◌≢◌, ℕ, ◌+◌, ◌*◌, ◌/◌, ◌%◌, ◌<◌, List, [], ◌∷◌, Option, Some, None, length, get_or, take}
 use Rattle.std.proofs.Common.{refl, sym, ap, ◌∙◌, subst, inl, inr, arith, length-take}
 use Rattle.std.specs.Prelude.{All, IsSomeAnd, slice_get}
 use Rattle.std.specs.Int.{bit_at}
@@ -19,7 +19,7 @@ use Rattle.path_filters.specs.Touched.{LeadsTo}
 use Rattle.path_filters.proofs.ListLemmas.{leads_at, leads_from, leads_alike}
 use Rattle.path_filters.proofs.BitLemmas.{bit_in, hit_is}
 use Rattle.filter_checks.specs.RightFilters.{IsComputedAt, IsPossibleAt, IsAbsentAt}
-use Rattle.filter_checks.specs.Refused.{IsAlong, ArePossibleAlong, IsFirstAbsent, HasClearBitAt}
+use Rattle.filter_checks.specs.Refused.{ArePossibleAlong, IsFirstAbsent, HasClearBitAt}
 
 -- what holds of the filter at a position that is there
 pub there : (P : List ℕ → Type 0) (all : FiltersOfGraph) (p : ℕ) → p < length all.filters

@@ -1,17 +1,16 @@
 -- What the paths that were told say of a filter.
-use Rattle.std.proofs.Common.{◌≡◌, ℕ, ◌+◌, ◌<◌, ◌≤◌, List, [], ◌∷◌, ◌++◌, Option, length, refl, sym, ap, ◌∙◌, subst, inl, inr, arith}
+use Rattle.std.proofs.Common.{◌≡◌, ℕ, ◌≤◌, List, [], ◌∷◌, ◌++◌, Option, length, refl, sym, ap, ◌∙◌, subst, inl, inr, arith}
 use Rattle.std.proofs.Common.{length-append}
 use Rattle.std.specs.Prelude.{All, Contains}
 use Rattle.std.specs.Ordering.{nat_cmp, ordering_reverse}
 use Rattle.std.specs.declared.cmp.Ordering.TheVariants.{Less}
 use Rattle.std.specs.Cmp.Lexicographic.{slice_cmp}
 use Rattle.std.proofs.lemmas.Cmp.{nat_list_cmp_total}
-use Rattle.std.proofs.lemmas.List.Elements.{All-contains, Contains-push, Contains-push_cases, All-more}
+use Rattle.std.proofs.lemmas.List.Elements.{All-contains, Contains-push, Contains-push_cases}
 use Rattle.graph_chunks.specs.GraphFilters.{FiltersOfGraph}
 use Rattle.tree_changes.specs.Stands.{World, joined}
 use Rattle.tree_changes.specs.Changes.{AreChanged, AreFirstChanged, AreMore, IsChangedText, IsRefusal}
 use Rattle.tree_changes.specs.declared.changes.Limits.{Limits}
-use Rattle.path_filters.specs.Touched.{IsTouched}
 use Rattle.filter_checks.specs.RightFilters.{HasAllTouched}
 use Rattle.filter_checks.specs.Refused.{ArePossibleAlong, IsFirstAbsent, IsFirstLack, IsFilterRefusal, IsLackOf}
 use Rattle.filter_checks.specs.declared.refusal.FilterRefusal.{FilterRefusal}

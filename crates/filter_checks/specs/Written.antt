@@ -1,5 +1,5 @@
 -- When the filters of a graph are those that Git writes for its commits, to the last bit, and why one is refused.
-use Rattle.std.specs.Prelude.{◌≡◌, ◌≢◌, ◌<◌, ℕ, List, slice_get, Option, Some, IsSomeAnd}
+use Rattle.std.specs.Prelude.{◌≢◌, ◌<◌, ℕ, List, slice_get, Option, Some, IsSomeAnd}
 use Rattle.graph_format.specs.Layer.{Layer}
 use Rattle.gix_commitgraph.specs.Graph.{total}
 use Rattle.graph_chunks.specs.GraphFilters.{FiltersOfGraph}

@@ -11,13 +11,13 @@ use test_trees::known::{KnownTrees, ReadError};
 use tree_changes::Refusal;
 
 /// How far trees are gone through: farther than any of the tables go.
-const WIDE: Bounds = Bounds {
+pub const WIDE: Bounds = Bounds {
     names: 2048,
     trees: 10_000,
 };
 
 /// The settings by which Git writes filters, but for the version of the hash.
-fn settings(version: HashVersion) -> Settings {
+pub fn settings(version: HashVersion) -> Settings {
     Settings {
         version,
         bits: 10,

@@ -64,17 +64,29 @@ fn put_row(rt: &impl Abort, alloc: Global, source: &mut KnownTrees, row: &TreeRo
     assert!(rt; id == id_from(rt, by_kind(kind, sha1, sha256)));
 }
 
-/// The trees of the tables.
-pub fn small_trees(rt: &impl Abort, alloc: Global, kind: Kind) -> KnownTrees {
-    let mut source = KnownTrees {
+/// A source without trees.
+pub fn no_trees(alloc: Global, kind: Kind) -> KnownTrees {
+    KnownTrees {
         kind,
         trees: Vec::new(alloc),
         reads: 0,
-    };
-    for row in TREES {
-        put_row(rt, alloc, &mut source, row);
+    }
+}
+
+/// The trees of the tables, but for one.
+pub fn trees_without(rt: &impl Abort, alloc: Global, kind: Kind, left_out: usize) -> KnownTrees {
+    let mut source = no_trees(alloc, kind);
+    for (number, row) in (0..99).zip(TREES) {
+        if number != left_out {
+            put_row(rt, alloc, &mut source, row);
+        }
     }
     source
+}
+
+/// The trees of the tables.
+pub fn small_trees(rt: &impl Abort, alloc: Global, kind: Kind) -> KnownTrees {
+    trees_without(rt, alloc, kind, usize::MAX)
 }
 
 /// The bytes of a tree of so many entries of one mode, which name one thing. Their names begin with

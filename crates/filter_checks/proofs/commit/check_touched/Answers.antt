@@ -1,4 +1,4 @@
-use Rattle.std.proofs.Common.{◌≡◌, ◌+◌, ◌++◌, ◌∷◌, [], Some, Bool, option_map, length, take, refl, ◌∙◌, subst, arith, length-append}
+use Rattle.std.proofs.Common.{◌++◌, ◌∷◌, [], Some, option_map, take, refl, ◌∙◌, subst, arith, length-append}
 use Rattle.std.proofs.lemmas.List.Elements.{All-nil, All-push}
 use Rattle.gix_hash_core.specs.Oid.{oid_bytes}
 use Rattle.tree_changes.specs.InTurn.{GoesOn, last_told}
