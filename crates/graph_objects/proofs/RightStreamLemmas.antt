@@ -122,7 +122,7 @@ entry_there layers first p q bytes next last one two less =
           entries_of layers (p + 1) later ++ last,
           record {
             whole = whole ∙ append_assoc (object_entry object.Commit (graph_id_at layers p) c)
-            (entries_of layers (p + 1) later) last;
+                (entries_of layers (p + 1) later) last;
             fits = agree.0.1;
           },
           agree.0.0,

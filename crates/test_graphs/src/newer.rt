@@ -21,7 +21,9 @@ const PEOPLE: &str = "author A <a@example.com> 1700000000 +0000\n\
 
 /// The ids of the diamond.
 const TWOS: &str = "2222222222222222222222222222222222222222";
+
 const THREES: &str = "3333333333333333333333333333333333333333";
+
 const FOURS: &str = "4444444444444444444444444444444444444444";
 
 /// One that is nowhere.
@@ -30,9 +32,13 @@ const FIVES: &str = "5555555555555555555555555555555555555555";
 /// Commits on the diamond: one on each of its branches, their merge, a merge of the first of them
 /// and the tip of the diamond, and a root.
 const ON_LEFT: &str = "ec587680b0885a7e5e9acd326ce366fc1ef89cdd";
+
 const ON_RIGHT: &str = "d06254cfb8d540531df0827ef27818d0e225c13a";
+
 const MERGE: &str = "cbe35ffbb8085b906da33f5924aec1499b9caa58";
+
 const WITH_TIP: &str = "b56cd9fa72b63134fb854c8b8aa81556825b5cc9";
+
 const ROOT: &str = "ed03cd8c99749b84d7e2429e643441279de4c4da";
 
 /// The last of 10,000 commits in a line on that root.
@@ -164,10 +170,12 @@ fn is_known<E: Drop>(answer: Result<Position, AddError<E>>, pos: Position) -> bo
 /// Whether the answer is that the parent with this number and this id is not there.
 fn lacks<E: Drop>(answer: Result<Position, AddError<E>>, index: usize, id: ObjectId) -> bool {
     match answer {
-        Err(AddError::Parent {
-            index: number,
-            id: parent,
-        }) => number == index && parent == id,
+        Err(
+            AddError::Parent {
+                index: number,
+                id: parent,
+            },
+        ) => number == index && parent == id,
         _ => false,
     }
 }
