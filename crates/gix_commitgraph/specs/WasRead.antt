@@ -11,8 +11,8 @@ use Rattle.gix_commitgraph.specs.Paths.{chain_path, info_chain, info_file, layer
 abbrev pub FileWasRead : (List ℕ → List ℕ → Type 0) → List ℕ → List Layer → Type 0
 FileWasRead gives path layers = IsFromFile path layers × All (LayerWasRead gives) layers
 
--- The layers of a chain folder, as they were read: a read of its chain file gave this text, whose lines name the layers in their
--- order, and each is the file of its line, as a read gave it.
+-- The layers of a chain folder, as they were read: a read of its chain file gave this text, whose lines name the layers in
+-- their order, and each is the file of its line, as a read gave it.
 pub record ChainWasRead (gives : List ℕ → List ℕ → Type 0) (folder : List ℕ) (layers : List Layer) : Type 0 where
   pub text : List ℕ
   pub given : gives (chain_path folder) text

@@ -22,8 +22,8 @@ layer_of_bytes i bytes path = result_map_err (layer_refused i) (layer_of bytes p
 abbrev pub layer_at : Tree → ℕ → List ℕ → Result Layer OpenError
 layer_at tree i path = and_then (bytes_at tree path) (λ bytes. layer_of_bytes i bytes path)
 
--- The layer is a file that was there, as it was read: a read of its path gave these bytes, the whole file, and they are the file of
--- this layer.
+-- The layer is a file that was there, as it was read: a read of its path gave these bytes, the whole file, and they are the
+-- file of this layer.
 pub record LayerWasRead (gives : List ℕ → List ℕ → Type 0) (layer : Layer) : Type 0 where
   pub bytes : List ℕ
   pub given : gives layer.path bytes

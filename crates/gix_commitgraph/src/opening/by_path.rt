@@ -4,7 +4,8 @@ ghost use Rattle.std.specs.Prelude.{IfOk, IfErr, MatchResult};
 ghost use Rattle.gix_commitgraph.specs.Graph.{IsGraph};
 ghost use Rattle.gix_commitgraph.specs.OpenAlways.{IsFromFile, IsFromChain, IsFromInfo, IsFromPath};
 ghost use Rattle.gix_commitgraph.specs.OpenAlways.{IsFileError, IsFolderError, IsPathError};
-ghost use Rattle.gix_commitgraph.specs.WasRead.{ChainWasRead, FileWasRead, InfoWasRead, PathWasRead};
+ghost use Rattle.gix_commitgraph.specs.WasRead.{ChainWasRead, FileWasRead};
+ghost use Rattle.gix_commitgraph.specs.WasRead.{InfoWasRead, PathWasRead};
 ghost use Rattle.graph_folder.specs.Reads.{AreAllOfFile};
 ghost use Rattle.graph_layer.specs.OpenRefusals.{OutOfMemoryStandsAlone};
 
