@@ -40,3 +40,11 @@ pub fn paths_have_one_filter()
         → IsFilterOf reading bits hashes paths one → IsFilterOf reading bits hashes paths other
         → one ≡ other }
 {}
+
+/// For what is changed from one tree to another, Git writes one filter.
+pub fn git_writes_one_filter()
+    ensures { (settings : Settings) (world : World) (old new : Option (List ℕ))
+        (one other : List ℕ) → All (λ byte. byte < 256) one → All (λ byte. byte < 256) other
+        → IsWritten settings (IsChangedText world old new) one
+        → IsWritten settings (IsChangedText world old new) other → one ≡ other }
+{}

@@ -1,7 +1,7 @@
 //! The filters of a history against its trees, as Git wrote them and with bits changed.
 
 use crate::filters::{WIDE, settings};
-use crate::fixtures::{by_kind, bytes_of, no_trees, small_trees, trees_without};
+use crate::fixtures::{by_kind, bytes_of, no_trees, put_large, small_trees, trees_without};
 use crate::graphs::{BITS_SHA1, BITS_SHA256, BitRow, GRAPH_SHA1, GRAPH_SHA256};
 use crate::tables::{EMPTY, LARGE, NAMED};
 use changed_paths::filters::HashVersion;
