@@ -44,5 +44,5 @@ abbrev pub AreRightBelow : World → List Layer → FiltersOfGraph → ℕ → T
 AreRightBelow world layers all end = (p : ℕ) → p < end → IsRightAt world layers all p
 
 -- so do all filters of a graph
-abbrev pub AreRight : World → List Layer → FiltersOfGraph → Type 0
-AreRight world layers all = AreRightBelow world layers all (total layers)
+abbrev pub AreRightFilters : World → List Layer → FiltersOfGraph → Type 0
+AreRightFilters world layers all = AreRightBelow world layers all (total layers)

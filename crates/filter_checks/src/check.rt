@@ -4,7 +4,7 @@ ghost use Rattle.std.specs.Prelude.{◌≡◌, IfErr, OnOk, length};
 ghost use Rattle.gix_commitgraph.specs.Graph.{total};
 ghost use Rattle.gix_commitgraph.specs.Sound.{Sound};
 ghost use Rattle.tree_changes.specs.Stands.{World};
-ghost use Rattle.filter_checks.specs.RightFilters.{AreRight};
+ghost use Rattle.filter_checks.specs.RightFilters.{AreRightFilters};
 ghost use Rattle.filter_checks.specs.Refused.{IsFirstRefused};
 
 use crate::commit::check_commit;
@@ -40,7 +40,7 @@ pub fn check_filters<S: TreeSource>(
     ensures kind { S.kind_is source.new ≡ S.kind_is source.old }
     ensures kept { (world : World) → S.says source.new world → S.says source.old world }
     ensures right { OnOk result ((world : World) → S.says source.new world
-        → AreRight world graph.now filters.now) }
+        → AreRightFilters world graph.now filters.now) }
     ensures refused { IfErr result (λ fault. (world : World) → S.says source.new world
         → IsFirstRefused (S.has_refused source.new) limits world graph.now filters.now fault) }
 {

@@ -15,7 +15,7 @@ use Rattle.std.proofs.lemmas.Bool.{cases_lt}
 use Rattle.std.proofs.lemmas.List.{take_all, take_more}
 use Rattle.tree_changes.specs.Changes.{AreRisingTexts}
 use Rattle.path_filters.specs.Touched.{LeadsTo, IsTouched, AreTouched, AreMoreTouched}
-use Rattle.path_filters.specs.Steps.{IsGathered, IsGatheredWhole}
+use Rattle.path_filters.specs.Steps.{IsPathGathered, IsGatheredWhole}
 use Rattle.path_filters.proofs.ListLemmas.{first, later, cases, leads_at, leads_from, leads_alike}
 
 module _ {K : Type 0} (now : K → List ℕ) where
@@ -94,9 +94,9 @@ HasDirectories path low high gathered = (d : List ℕ) → LeadsTo d path → lo
 
 -- one directory more
 pub gathered_more : (path : List ℕ) (before mid after : List (List ℕ)) (i : ℕ) (directory : List ℕ) → i < length path
-    → get_or path i 0 ≡ 47 → directory ≡ take i path → IsGathered path before mid
+    → get_or path i 0 ≡ 47 → directory ≡ take i path → IsPathGathered path before mid
     → ((p : List ℕ) → Contains mid p → Contains after p)
-    → ((p : List ℕ) → Contains after p → Contains mid p ⊎ (p ≡ directory)) → IsGathered path before after
+    → ((p : List ℕ) → Contains after p → Contains mid p ⊎ (p ≡ directory)) → IsPathGathered path before after
 gathered_more path before mid after i directory within slash is h kept none = record {
   kept = λ p k. kept p (h.kept p k);
   no_others = λ p k.
@@ -119,9 +119,9 @@ directories_more path low i mid after directory is h kept there d leads from bel
 
 -- the path itself, behind its directories
 pub gathered_whole : (last path : List ℕ) (before mid after : List (List ℕ)) (common : ℕ) → take common last ≡ take common path
-    → common ≤ length last → IsGathered path before mid → HasDirectories path common (length path) mid
+    → common ≤ length last → IsPathGathered path before mid → HasDirectories path common (length path) mid
     → ((p : List ℕ) → Contains mid p → Contains after p) → ((p : List ℕ) → Contains after p → Contains mid p ⊎ (p ≡ path))
-    → Contains after path → IsGathered path before after × IsGatheredWhole last path before after
+    → Contains after path → IsPathGathered path before after × IsGatheredWhole last path before after
 gathered_whole last path before mid after common same within h directories kept none there = (
   record {
     kept = λ p k. kept p (h.kept p k);
@@ -159,7 +159,7 @@ last_of changed index path p within is h =
     ]
 
 pub one_more : (changed : List (List ℕ)) (index : ℕ) (last path : List ℕ) (before after : List (List ℕ)) → index < length changed
-    → path ≡ get_or changed index [] → AreGathered changed index last before → IsGathered path before after
+    → path ≡ get_or changed index [] → AreGathered changed index last before → IsPathGathered path before after
     → IsGatheredWhole last path before after → AreGathered changed (index + 1) path after
 one_more changed index last path before after within is h step whole =
     let here : Contains changed path = subst (λ p. Contains changed p) (sym is) (Contains-get_or changed index [] within) in

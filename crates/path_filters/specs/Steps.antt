@@ -5,7 +5,7 @@ use Rattle.changed_paths.specs.declared.murmur3.ByteReading.{ByteReading}
 use Rattle.path_filters.specs.Touched.{LeadsTo}
 
 -- Of paths that were gathered all are there still, and no others but the path and the directories that lead to it.
-pub record IsGathered (path : List ℕ) (before after : List (List ℕ)) : Type 0 where
+pub record IsPathGathered (path : List ℕ) (before after : List (List ℕ)) : Type 0 where
   pub kept : (p : List ℕ) → Contains before p → Contains after p
   pub no_others : (p : List ℕ) → Contains after p → Contains before p ⊎ ((p ≡ path) ⊎ LeadsTo p path)
 

@@ -3,7 +3,7 @@
 ghost use Rattle.std.specs.Prelude.{◌≡◌, ◌≤◌, ◌<◌, ◌↔◌, Contains, IfOk, IsTrue, length, map};
 ghost use Rattle.std.specs.Prelude.{MatchOption, take};
 ghost use Rattle.path_filters.specs.Touched.{AreTouched, AreMoreTouched};
-ghost use Rattle.path_filters.specs.Steps.{IsGathered, IsGatheredWhole};
+ghost use Rattle.path_filters.specs.Steps.{IsPathGathered, IsGatheredWhole};
 
 use std::alloc::{AllocError, Global};
 use std::collections::BTreeSet;
@@ -47,7 +47,7 @@ fn gather<'a>(
     last: &[u8],
     path: &'a [u8],
 ) -> Result<(), AllocError>
-    ensures { IfOk result (λ _. IsGathered path.now (map (λ p. p.now) touched.old.keys)
+    ensures { IfOk result (λ _. IsPathGathered path.now (map (λ p. p.now) touched.old.keys)
         (map (λ p. p.now) touched.new.keys)
         × IsGatheredWhole last.now path.now (map (λ p. p.now) touched.old.keys)
         (map (λ p. p.now) touched.new.keys)) }

@@ -10,7 +10,7 @@ use Rattle.std.proofs.lemmas.Cmp.{nat_list_cmp_total, tied_itself}
 use Rattle.std.proofs.lemmas.List.Elements.{All-nil, All-cons, All-head, All-tail}
 use Rattle.std.proofs.lemmas.List.Sums.{sum_by-cons}
 use Rattle.tree_changes.specs.Stands.{World, TreePath, id_of, entries_of, slashed, HasOtherDirectory, directory_at}
-use Rattle.tree_changes.specs.Changes.{one_if_some, trees_at, AreDistinct, IsMuch, IsDeeper, IsNeeded}
+use Rattle.tree_changes.specs.Changes.{one_if_some, trees_at, AreDistinctPaths, IsMuch, IsDeeper, IsNeeded}
 use Rattle.tree_changes.specs.Walk.{Change, IsChange, IsEarlier, change_key, end_if, trees_of, AreRisingChanges}
 
 abbrev pub path_of : Change → TreePath
@@ -105,11 +105,11 @@ module _ (world : World) (old new : Option (List ℕ)) where
       (λ f. apart c d e f (All-head (IsEarlier c) d changes h)) (all_apart c changes e (All-tail (IsEarlier c) d changes h))
 
   distinct_cond : (d : Bool) (path : TreePath) (paths : List TreePath) → (d ≡ true → All (λ p. p ≢ path) paths)
-      → AreDistinct paths → AreDistinct (cond d (path ∷ paths) paths)
+      → AreDistinctPaths paths → AreDistinctPaths (cond d (path ∷ paths) paths)
   distinct_cond true path paths f h = (f refl, h)
   distinct_cond false path paths f h = h
 
-  are_distinct : (changes : List Change) → AreRisingChanges changes → AreDistinct (directory_paths changes)
+  are_distinct : (changes : List Change) → AreRisingChanges changes → AreDistinctPaths (directory_paths changes)
   are_distinct [] h = tt
   are_distinct (c ∷ changes) h =
       distinct_cond c.directory (path_of c) (directory_paths changes) (λ e. all_apart c changes e h.0)

@@ -4,7 +4,7 @@ use Rattle.std.specs.List.{sum_by}
 use Rattle.std.specs.Ordering.{nat_cmp}
 use Rattle.std.specs.Cmp.Lexicographic.{slice_cmp}
 use Rattle.std.specs.declared.cmp.Ordering.TheVariants.{Less}
-use Rattle.tree_objects.specs.Tree.{IsName}
+use Rattle.tree_objects.specs.TreeContents.{IsName}
 use Rattle.tree_changes.specs.Stands.{World, TreePath, joined, IsChanged, HasOtherDirectory, directory_at, id_of}
 use Rattle.tree_changes.specs.declared.changes.Refusal.{Refusal}
 use Rattle.tree_changes.specs.declared.changes.Refusal.TheVariants.{TooMany, TooDeep, TooMuch, Source, OutOfMemory}
@@ -58,14 +58,14 @@ abbrev pub trees_at : World → Option (List ℕ) → Option (List ℕ) → Tree
 trees_at world old new path = one_if_some (directory_at world old path) + one_if_some (directory_at world new path)
 
 -- each of these paths is there once
-abbrev pub AreDistinct : List TreePath → Type 0
-AreDistinct [] = ⊤
-AreDistinct (first ∷ paths) = All (λ path. path ≢ first) paths × AreDistinct paths
+abbrev pub AreDistinctPaths : List TreePath → Type 0
+AreDistinctPaths [] = ⊤
+AreDistinctPaths (first ∷ paths) = All (λ path. path ≢ first) paths × AreDistinctPaths paths
 
 -- More trees than so many have to be read: both, and those at paths where other directories stand.
 pub record IsMuch (world : World) (old new : Option (List ℕ)) (most : ℕ) : Type 0 where
   pub paths : List TreePath
-  pub distinct : AreDistinct paths
+  pub distinct : AreDistinctPaths paths
   pub other : All (HasOtherDirectory world old new) paths
   pub more : most < one_if_some old + one_if_some new + sum_by (trees_at world old new) paths
 
@@ -80,11 +80,11 @@ IsNeeded world old new id =
     ⊎ ((path : TreePath) × HasOtherDirectory world old new path × IsIdAt world old new path id)
 
 -- why the paths are not told
-abbrev pub IsRefusal : {E : Type 0} → (List ℕ → E → Type 0) → ℕ → ℕ → ℕ → World → Option (List ℕ) → Option (List ℕ)
+abbrev pub IsChangesRefusal : {E : Type 0} → (List ℕ → E → Type 0) → ℕ → ℕ → ℕ → World → Option (List ℕ) → Option (List ℕ)
     → Refusal E → Type 0
-IsRefusal refused paths names trees world old new TooMany = AreMore world old new paths
-IsRefusal refused paths names trees world old new TooDeep = IsDeeper world old new names
-IsRefusal refused paths names trees world old new TooMuch = IsMuch world old new trees
-IsRefusal refused paths names trees world old new (Source error) =
+IsChangesRefusal refused paths names trees world old new TooMany = AreMore world old new paths
+IsChangesRefusal refused paths names trees world old new TooDeep = IsDeeper world old new names
+IsChangesRefusal refused paths names trees world old new TooMuch = IsMuch world old new trees
+IsChangesRefusal refused paths names trees world old new (Source error) =
     (id : List ℕ) × IsNeeded world old new id × refused id error
-IsRefusal refused paths names trees world old new OutOfMemory = ⊤
+IsChangesRefusal refused paths names trees world old new OutOfMemory = ⊤
