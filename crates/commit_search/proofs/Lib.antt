@@ -13,4 +13,7 @@ pub mod ShortestWalkLemmas
 pub mod VisitLemmas
 pub mod QueryLemmas
 pub mod KnownAnswerLemmas
+pub mod ReachLemmas
+pub mod RankLemmas
+pub mod RankedLemmas
 pub mod DescentLemmas

@@ -2,6 +2,7 @@ pub mod Cardinality
 pub mod Positions
 pub mod EdgeLists
 pub mod Source
+pub mod Ranks
 pub mod WalkAnswer
 pub mod Marks
 pub mod Places
@@ -10,3 +11,4 @@ pub mod Queue
 pub mod BreadthFirst
 pub mod SearchState
 pub mod Search
+pub mod RankedHistory

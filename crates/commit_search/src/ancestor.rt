@@ -3,7 +3,8 @@
 ghost use Rattle.std.specs.Prelude.{◌≡◌, ◌⊎◌, ◌+◌, ◌-◌, ◌<◌, ◌≤◌, ℕ, length, IfOk, IfErr, OnOk};
 ghost use Rattle.std.specs.Prelude.{IfSome, IfNone, IsTrue, Contains, alloc_error, false};
 ghost use Rattle.graph_walks.specs.History.{generation_at};
-ghost use Rattle.graph_walks.specs.Walks.{CountWalks, Reaches};
+ghost use Rattle.graph_walks.specs.Walks.{Reaches};
+ghost use Rattle.commit_search.specs.RankedHistory.{NeverRise};
 ghost use Rattle.commit_search.specs.Cardinality.{AtLeast, AtMost};
 ghost use Rattle.commit_search.specs.WalkAnswer.{IsAbove, IsAtOrAbove, LeadsWithin};
 ghost use Rattle.commit_search.specs.Search.{IsIdle, MayBeOfUse};
@@ -13,7 +14,6 @@ use crate::marks::Marks;
 use crate::search::Search;
 use crate::source::CommitSource;
 use graph_format::Position;
-use graph_walks::law::generations_never_rise_along_walks;
 use std::alloc::AllocError;
 
 impl<M: Marks> Search<M> {
@@ -46,10 +46,10 @@ impl<M: Marks> Search<M> {
             → S.says commits.new t → IsTrue told.0
             → LeadsWithin t.history from.0 to.0 told.1)) }
         ensures no { IfOk result (λ answer. IfSome answer (λ told. (t : Told)
-            → S.says commits.new t → CountWalks t.history → Reaches t.history from.0 to.0
+            → S.says commits.new t → NeverRise t.history → Reaches t.history from.0 to.0
             → IsTrue told.0)) }
         ensures above { IfOk result (λ answer. IfSome answer (λ told. (t : Told)
-            → S.says commits.new t → CountWalks t.history → told.0 ≡ false
+            → S.says commits.new t → NeverRise t.history → told.0 ≡ false
             → AtMost told.1 (IsAbove t.history from.0 to.0))) }
         ensures fewer { IfOk result (λ answer. IfNone answer
             (most < S.count (S.known commits.old))) }
@@ -58,7 +58,6 @@ impl<M: Marks> Search<M> {
         ensures failed { IfErr result (λ e. S.may_fail (S.known commits.old) e
             ⊎ S.Error.from_gives alloc_error e) }
     {
-        generations_never_rise_along_walks();
         self.begin(commits.num_commits(), from, least)?;
         stack.clear();
         push_places(stack, 0, 1)?;

@@ -1,8 +1,7 @@
 //! Answers to queries over commits that any source gives.
 
-ghost use Rattle.std.specs.Prelude.{◌≡◌, ◌≢◌, ◌⊎◌, ◌+◌, ◌<◌, ◌≤◌, ◌∷◌, [], IfOk, IfErr, IfSome};
+ghost use Rattle.std.specs.Prelude.{◌≡◌, ◌≢◌, ◌⊎◌, ◌+◌, ◌<◌, ◌≤◌, IfOk, IfErr, IfSome};
 ghost use Rattle.std.specs.Prelude.{IfNone, IsTrue, alloc_error, false};
-ghost use Rattle.graph_walks.specs.History.{generation_at};
 ghost use Rattle.graph_walks.specs.Walks.{CountWalks, Reaches};
 ghost use Rattle.commit_search.specs.Cardinality.{AtLeast, AtMost};
 ghost use Rattle.commit_search.specs.WalkAnswer.{IsAbove, IsAnswer, IsAnyAnswer, IsAtOrAbove};
@@ -16,10 +15,9 @@ use crate::few::FewMarks;
 use crate::marks::Marks;
 use crate::search::Search;
 use crate::source::CommitSource;
+use crate::within::generation_numbers_can_be_searched;
 use graph_format::Position;
-use graph_walks::GENERATION_NUMBER_MAX;
-use graph_walks::law::{generations_fall_along_walks, generations_never_rise_along_walks};
-use std::alloc::{AllocError, Global};
+use std::alloc::Global;
 use std::marker::Model;
 
 /// Answers queries over the commits of any source, and keeps its memory from one to the next: that
@@ -33,9 +31,9 @@ use std::marker::Model;
 /// that was read of it.
 #[derive(Drop)]
 pub struct MarkSearcher<M: Marks> {
-    search: Search<M>,
+    pub(crate) search: Search<M>,
     /// The places of the queue that a search depth first has yet to visit.
-    stack: Vec<u32>,
+    pub(crate) stack: Vec<u32>,
 }
 
 impl<M: Marks> Model for MarkSearcher<M> {
@@ -141,28 +139,8 @@ impl<M: Marks> MarkSearcher<M> {
             ⊎ (S.Error.from_gives alloc_error e × ((t : Told) → S.says commits.new t
             → (from.0 ≡ to.0) ⊎ MayLead t.history from.0 to.0))) }
     {
-        generations_never_rise_along_walks();
-        // The contract of `num_commits` says how many commits the source tells of.
-        let _commits = commits.num_commits();
-        if from == to {
-            if most == 0 {
-                return Ok(None);
-            }
-            let walk = walk_of(self.search.alloc(), from)?;
-            return Ok(Some(Reached {
-                walk: Some(walk),
-                visits: 1,
-            }));
-        }
-        let Some(least) = least_number(commits, from, to)? else {
-            return Ok(Some(Reached {
-                walk: None,
-                visits: 0,
-            }));
-        };
-        let reached = self.search.shortest_walk(commits, from, to, least, most);
-        self.search.clear();
-        reached
+        generation_numbers_can_be_searched();
+        self.walk_within(commits, from, to, most)
     }
 
     /// Whether one commit is an ancestor of another, or the same commit, at positions that are
@@ -288,61 +266,7 @@ impl<M: Marks> MarkSearcher<M> {
             ⊎ (S.Error.from_gives alloc_error e × ((t : Told) → S.says commits.new t
             → MayLead t.history descendant.0 ancestor.0)))) }
     {
-        generations_never_rise_along_walks();
-        // The contract of `num_commits` says how many commits the source tells of.
-        let _commits = commits.num_commits();
-        if descendant == ancestor {
-            return Ok(Some((true, 0)));
-        }
-        let Some(least) = least_number(commits, descendant, ancestor)? else {
-            return Ok(Some((false, 0)));
-        };
-        let stack = &mut self.stack;
-        let told = self
-            .search
-            .reaches(commits, stack, descendant, ancestor, least, most);
-        self.search.clear();
-        told
-    }
-}
-
-/// The walk of one commit alone.
-fn walk_of(alloc: Global, pos: Position) -> Result<Vec<Position>, AllocError>
-    ensures { IfOk result (λ walk. walk.items ≡ pos ∷ []) }
-{
-    Ok(vec![in alloc; pos]?)
-}
-
-/// The generation number of a commit, where it allows a walk to it from another commit.
-fn least_number<S: CommitSource>(
-    commits: &mut S,
-    from: Position,
-    to: Position,
-) -> Result<Option<u32>, S::Error>
-    requires from { from.0 < S.count (S.known commits.old) }
-    requires to { to.0 < S.count (S.known commits.old) }
-    requires apart { from.0 ≢ to.0 }
-    ensures known { S.known commits.new ≡ S.known commits.old }
-    ensures kept { (t : Told) → S.says commits.new t → S.says commits.old t }
-    ensures number { IfOk result (λ answer. IfSome answer (λ least. (t : Told)
-        → S.says commits.new t → least ≡ generation_at t.history to.0)) }
-    ensures above { IfOk result (λ answer. IfSome answer (λ least. (t : Told)
-        → S.says commits.new t → least ≤ generation_at t.history from.0)) }
-    ensures allowed { IfOk result (λ answer. IfSome answer (λ _. (t : Told)
-        → S.says commits.new t → MayLead t.history from.0 to.0)) }
-    ensures none { IfOk result (λ answer. IfNone answer ((t : Told) → S.says commits.new t
-        → CountWalks t.history → ¬ Reaches t.history from.0 to.0)) }
-    ensures below { IfOk result (λ answer. IfNone answer ((t : Told) → S.says commits.new t
-        → generation_at t.history from.0 ≤ generation_at t.history to.0)) }
-    ensures failed { IfErr result (S.may_fail (S.known commits.old)) }
-{
-    generations_never_rise_along_walks();
-    generations_fall_along_walks();
-    let above = commits.generation_number(from)?;
-    let least = commits.generation_number(to)?;
-    if least < above || (above == least && least == GENERATION_NUMBER_MAX) {
-        Ok(Some(least))
-    } else {
-        Ok(None)
+        generation_numbers_can_be_searched();
+        self.told_within(commits, ancestor, descendant, most)
     }
 }

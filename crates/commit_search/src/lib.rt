@@ -7,13 +7,15 @@
 //! An [`AnySearcher`] looks for walks from one commit to another, over any source. It leaves out
 //! each commit whose generation number is too low to lead to the one that is looked for
 //! ("topological level" in Git's commit-graph design). Where the numbers are right, its answers are
-//! exact. Where they are not, it ends all the same, and a walk that it answers is there.
+//! exact. Where they are not, it ends all the same, and a walk that it answers is there. By other
+//! numbers too, its [`Ranks`], it leaves out a commit where either is too low.
 #![tactic(auto)]
 
 mod ahead;
 mod ancestor;
 mod any;
 mod bits;
+mod by;
 pub mod edges;
 mod few;
 mod hash_table;
@@ -21,9 +23,12 @@ pub mod law;
 mod lists;
 mod marks;
 mod places;
+mod ranked;
+mod ranks;
 mod search;
 mod source;
 mod walk;
+mod within;
 mod words;
 
 pub use any::{AnySearcher, FewSearcher, MarkSearcher};
@@ -32,7 +37,8 @@ pub use few::FewMarks;
 use graph_format::Position;
 pub use marks::{Marked, Marks};
 pub use places::Places;
-pub use source::CommitSource;
+pub use ranks::{GenerationNumbers, Ranks};
+pub use source::{CommitSource, SteadySource};
 
 /// The answer of a query for a walk from one commit to another.
 #[derive(Debug, Drop)]

@@ -108,3 +108,10 @@ pub trait CommitSource {
             IsWordRead (count k) (words k layer) (is_listed k) (says self.new) pos.0 layer index) }
         ensures failed { IfErr result (may_fail (known self.old)) };
 }
+
+/// A source that says the same however much of it is read, as a graph in memory does.
+pub trait SteadySource: CommitSource {
+    /// What it says is determined by what no call changes.
+    ghost steady: { (one other : Self) (t : Told) → Self.known one ≡ Self.known other
+        → Self.says one t → Self.says other t };
+}

@@ -3,7 +3,8 @@
 ghost use Rattle.std.specs.Prelude.{◌≡◌, ◌⊎◌, ◌+◌, ◌<◌, ◌≤◌, ℕ, List, length, IfOk, IfErr, IfSome};
 ghost use Rattle.std.specs.Prelude.{IfNone, alloc_error};
 ghost use Rattle.graph_walks.specs.History.{Node, generation_at};
-ghost use Rattle.graph_walks.specs.Walks.{CountWalks, IsWalkBetween};
+ghost use Rattle.graph_walks.specs.Walks.{IsWalkBetween};
+ghost use Rattle.commit_search.specs.RankedHistory.{NeverRise};
 ghost use Rattle.commit_search.specs.Cardinality.{AtLeast};
 ghost use Rattle.commit_search.specs.WalkAnswer.{IsAnyAnswer, IsAnswer, IsAtOrAbove, MayLead};
 ghost use Rattle.commit_search.specs.Positions.{numbers_of};
@@ -17,7 +18,6 @@ use crate::marks::Marks;
 use crate::search::Search;
 use crate::source::CommitSource;
 use graph_format::Position;
-use graph_walks::law::generations_never_rise_along_walks;
 use std::alloc::AllocError;
 
 impl<M: Marks> Search<M> {
@@ -47,7 +47,7 @@ impl<M: Marks> Search<M> {
         ensures answer { IfOk result (λ answer. IfSome answer (λ reached. (t : Told)
             → S.says commits.new t → IsAnyAnswer t.history from.0 to.0 reached)) }
         ensures right { IfOk result (λ answer. IfSome answer (λ reached. (t : Told)
-            → S.says commits.new t → CountWalks t.history
+            → S.says commits.new t → NeverRise t.history
             → IsAnswer t.history from.0 to.0 reached)) }
         ensures fewer { IfOk result (λ answer. IfNone answer
             (most < S.count (S.known commits.old))) }
@@ -56,7 +56,6 @@ impl<M: Marks> Search<M> {
         ensures failed { IfErr result (λ e. S.may_fail (S.known commits.old) e
             ⊎ S.Error.from_gives alloc_error e) }
     {
-        generations_never_rise_along_walks();
         self.begin(commits.num_commits(), from, least)?;
         let mut ahead = Ahead::new(self.alloc());
         let mut visits: u32 = 0;

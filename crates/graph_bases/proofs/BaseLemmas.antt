@@ -12,10 +12,10 @@ use Rattle.graph_bases.specs.Paint.{is_ahead, is_behind, is_base, first_leads, o
 use Rattle.graph_bases.specs.Paint.{coat_at, paint_at, is_queued, is_visited, IsPaint}
 use Rattle.graph_bases.specs.Paint.{Grows}
 use Rattle.graph_bases.specs.Painting.{IsSpread, IsDone, IsPainted}
-use Rattle.graph_bases.specs.Ranks.{Ranking, FallsAlongParents}
+use Rattle.commit_search.specs.Ranks.{Ranking, FallsAlongParents}
 use Rattle.graph_bases.proofs.ReachLemmas.{proper_reaches, proper_then, reaches_then, from_some_then, IsBelowQueued, carried}
 use Rattle.graph_bases.proofs.ReachLemmas.{first_step}
-use Rattle.graph_bases.proofs.RankLemmas.{never_rises, falls_along}
+use Rattle.commit_search.proofs.RankLemmas.{never_rises, falls_along}
 use Rattle.graph_bases.proofs.PaintLemmas.{stale_first, stale_others, both_of, first_of, others_of, is_both, is_first}
 use Rattle.graph_bases.proofs.PaintLemmas.{is_others, passed_says}
 use Rattle.graph_bases.proofs.PaintLemmas.{first_painted, others_painted}

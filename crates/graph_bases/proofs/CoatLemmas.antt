@@ -23,7 +23,7 @@ use Rattle.graph_bases.specs.Paint.{is_fresh, bare, coat_at, paint_at, is_queued
 use Rattle.graph_bases.specs.Painting.{AreCandidates, IsSpread, IsSpreadBut, entry_cmp, IsRanked, IsWaiting, IsLevel}
 use Rattle.graph_bases.specs.Painting.{Joins, JoinsRanked, Adds, IsDone}
 use Rattle.graph_bases.specs.Painting.{work}
-use Rattle.graph_bases.specs.Ranks.{Ranking}
+use Rattle.commit_search.specs.Ranks.{Ranking}
 use Rattle.graph_bases.proofs.ReachLemmas.{reaches_itself}
 use Rattle.graph_bases.proofs.PaintLemmas.{grows_refl, grows_trans, grows_left, grows_right, covers_grows, joined_knows}
 use Rattle.graph_bases.proofs.PaintLemmas.{so_joined, base_is_new, base_first, base_others}

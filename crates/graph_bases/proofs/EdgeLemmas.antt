@@ -18,9 +18,9 @@ use Rattle.graph_bases.specs.declared.paint.Paint.{Paint}
 use Rattle.graph_bases.specs.Paint.{is_painted, is_stale, is_fresh, is_visited, is_on_one_side, covers, joined, bare}
 use Rattle.graph_bases.specs.Paint.{coat_at, paint_at, is_queued, IsSo, IsPaint}
 use Rattle.graph_bases.specs.Painting.{IsLevel, IsRanked, entry_cmp, IsWaiting, IsKnownEdge, IsVisiting, IsPainted}
-use Rattle.graph_bases.specs.Ranks.{Ranking, FallsAlongParents}
+use Rattle.commit_search.specs.Ranks.{Ranking, FallsAlongParents}
 use Rattle.graph_bases.proofs.PaintLemmas.{joined_painted, joined_fresh, one_side_painted, one_side, painted_leads}
-use Rattle.graph_bases.proofs.RankLemmas.{never_rises}
+use Rattle.commit_search.proofs.RankLemmas.{never_rises}
 use Rattle.graph_bases.proofs.CoatLemmas.{IsNext, TakenBy, next_rank, next_inside, all_low}
 use Rattle.graph_bases.proofs.FoundLemmas.{counted_number, some_counted, tested_within}
 use Rattle.commit_search.proofs.CardinalityLemmas.{no_more}

@@ -1,5 +1,4 @@
 pub mod ReachLemmas
-pub mod RankLemmas
 pub mod TrailLemmas
 pub mod SheetLemmas
 pub mod PaintLemmas

@@ -16,7 +16,7 @@ use Rattle.graph_bases.specs.declared.paint.Paint.{Paint}
 use Rattle.graph_bases.specs.declared.paint.Paint.TheVariants.{Bare}
 use Rattle.graph_bases.specs.Paint.{covers, joined, passed, paint_at, is_queued, Grows}
 use Rattle.graph_bases.specs.Painting.{IsSpread, IsSpreadBut, IsPassed, PassesPaint, PassesOn}
-use Rattle.graph_bases.specs.Ranks.{Ranking}
+use Rattle.commit_search.specs.Ranks.{Ranking}
 use Rattle.graph_bases.specs.Trails.{trail_at, trail_in}
 use Rattle.commit_search.proofs.EdgeListLemmas.{contained_cases, named_internal, named_last, named_past}
 use Rattle.graph_bases.proofs.PaintLemmas.{grows_trans, grows_left, grows_right, grows_joined, covers_joined}

@@ -9,7 +9,7 @@ use Rattle.commit_search.specs.Cardinality.{AtLeast, AtMost}
 use Rattle.commit_search.proofs.CardinalityLemmas.{no_more}
 use Rattle.graph_bases.specs.Bases.{IsReached, IsCommonAncestor, IsBelowCommon, HasToBeVisited, IsOnOneSide}
 use Rattle.graph_bases.specs.Bases.{IsMergeBase, AreBelowCap, IsAboveEdge, AreVisitsBy}
-use Rattle.graph_bases.specs.Ranks.{Ranking}
+use Rattle.commit_search.specs.Ranks.{Ranking}
 use Rattle.graph_bases.specs.declared.paint.Coat.{Coat}
 use Rattle.graph_bases.specs.declared.paint.Paint.{Paint}
 use Rattle.graph_bases.specs.declared.paint.Paint.TheVariants.{Bare, First, Others, Both, Stale}

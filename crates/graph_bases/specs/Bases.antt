@@ -5,7 +5,7 @@ use Rattle.std.specs.List.Sorted.{IsStrictlyIncreasing}
 use Rattle.graph_walks.specs.History.{Node, IsParent}
 use Rattle.graph_walks.specs.Walks.{Reaches, IsProperAncestor}
 use Rattle.commit_search.specs.Cardinality.{AtLeast, AtMost}
-use Rattle.graph_bases.specs.Ranks.{Ranking, by_generation}
+use Rattle.commit_search.specs.Ranks.{Ranking, by_generation}
 
 -- some of these commits leads to p; each commit leads to itself
 abbrev pub IsReachedFromSome : List Node → List ℕ → ℕ → Type 0

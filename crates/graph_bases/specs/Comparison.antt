@@ -4,7 +4,7 @@ use Rattle.graph_walks.specs.History.{Node}
 use Rattle.commit_search.specs.Positions.{numbers_of}
 use Rattle.commit_search.specs.Cardinality.{IsNumberOf}
 use Rattle.graph_bases.specs.Bases.{AreMergeBases, IsAhead, IsBehind, AreVisitsBy}
-use Rattle.graph_bases.specs.Ranks.{Ranking, by_generation}
+use Rattle.commit_search.specs.Ranks.{Ranking, by_generation}
 use Rattle.graph_bases.specs.declared.bases.Comparison.{Comparison}
 
 -- The merge bases of a commit of a history and some others, how far they have come apart, and how many commits were visited for

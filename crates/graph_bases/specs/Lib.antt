@@ -1,4 +1,3 @@
-pub mod Ranks
 pub mod Bases
 pub mod Comparison
 pub mod Sheet

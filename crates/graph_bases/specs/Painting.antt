@@ -19,7 +19,7 @@ use Rattle.graph_bases.specs.Paint.{is_on_one_side, is_visited, IsSo}
 use Rattle.graph_bases.specs.Paint.{first_leads, others_lead, is_stale, is_painted, is_ahead, is_behind, is_base, passed}
 use Rattle.graph_bases.specs.Paint.{known, unknown}
 use Rattle.graph_bases.specs.Paint.{paint_at, coat_at, is_queued, Grows, IsCounted, IsPaint}
-use Rattle.graph_bases.specs.Ranks.{Ranking, FallsAlongParents}
+use Rattle.commit_search.specs.Ranks.{Ranking, FallsAlongParents}
 use Rattle.graph_bases.specs.Trails.{trail_at, trail_in}
 use Rattle.graph_bases.specs.declared.paint.Coat.{Coat}
 use Rattle.graph_bases.specs.declared.paint.Paint.{Paint}

@@ -7,16 +7,15 @@ ghost use Rattle.commit_search.specs.Positions.{numbers_of};
 ghost use Rattle.graph_bases.specs.Bases.{IsCommonAncestor};
 ghost use Rattle.graph_bases.specs.Comparison.{IsComparisonBy, IsComparisonIn};
 ghost use Rattle.graph_bases.specs.Paint.{AreIdle};
-ghost use Rattle.graph_bases.specs.Ranks.{FallsAlongParents};
+ghost use Rattle.commit_search.specs.Ranks.{FallsAlongParents};
 
 use crate::bases::{Bases, Comparison};
 use crate::law::generation_numbers_fall_along_parents;
 use crate::paint::Coats;
 use crate::painting::paint_from;
-use crate::ranks::{GenerationNumbers, Ranks};
 use crate::sheet::CoatTable;
 use crate::tables::{AllCoats, FewCoats};
-use commit_search::CommitSource;
+use commit_search::{CommitSource, GenerationNumbers, Ranks};
 use graph_format::Position;
 use std::alloc::{AllocError, Global};
 use std::marker::Model;

@@ -1,17 +1,16 @@
 //! What the words of the contracts mean.
 
 ghost use Rattle.std.specs.Prelude.{◌≡◌, ◌↔◌, ◌<◌, ℕ, List, [], ◌∷◌};
-ghost use Rattle.graph_walks.specs.Dates.{AreRight};
 ghost use Rattle.graph_walks.specs.History.{Node, generation_at};
 ghost use Rattle.graph_walks.specs.Walks.{CountWalks, IsProperAncestor, Reaches};
 ghost use Rattle.graph_bases.specs.Bases.{AreMergeBases, IsCommonAncestor, IsMergeBase};
 ghost use Rattle.graph_bases.specs.Bases.{IsReachedFromSome};
-ghost use Rattle.graph_bases.specs.Ranks.{FallsAlongParents, by_date, by_generation};
 
-use graph_walks::GENERATION_NUMBER_MAX;
-use graph_walks::law::{
-    generations_fall_along_walks, generations_never_rise_along_walks, right_dates_fall_along_walks,
+pub use commit_search::law::{
+    corrected_dates_fall_along_parents, generation_numbers_fall_along_parents,
 };
+use graph_walks::GENERATION_NUMBER_MAX;
+use graph_walks::law::{generations_fall_along_walks, generations_never_rise_along_walks};
 
 /// Where the generation number of the first commit is below the cap, it and others with a common
 /// ancestor have a merge base. (At the cap there may be cycles, whose commits are proper ancestors
@@ -57,22 +56,4 @@ pub fn an_ancestor_is_the_only_merge_base()
 {
     generations_never_rise_along_walks();
     generations_fall_along_walks();
-}
-
-/// Where generation numbers count the commits of the longest walks, they fall along parents below
-/// their cap, so a search may go by them.
-pub fn generation_numbers_fall_along_parents()
-    ensures { (history : List Node) → CountWalks history
-        → FallsAlongParents history (by_generation history) }
-{
-    generations_never_rise_along_walks();
-    generations_fall_along_walks();
-}
-
-/// Where corrected dates are right, they fall along all parents, so a search may go by them.
-pub fn corrected_dates_fall_along_parents()
-    ensures { (history : List Node) (times dates : List ℕ) → AreRight history times dates
-        → FallsAlongParents history (by_date dates) }
-{
-    right_dates_fall_along_walks();
 }

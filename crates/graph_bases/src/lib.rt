@@ -13,14 +13,13 @@ pub mod law;
 mod paint;
 mod painting;
 mod passing;
-mod ranks;
 mod sheet;
 mod tables;
 mod trails;
 
 pub use any::{AnyComparer, CoatComparer, FewComparer};
 pub use bases::{Bases, Comparison, Divergence};
+pub use commit_search::{GenerationNumbers, Ranks};
 pub use paint::{Coat, Paint};
-pub use ranks::{GenerationNumbers, Ranks};
 pub use sheet::CoatTable;
 pub use tables::{AllCoats, FewCoats};

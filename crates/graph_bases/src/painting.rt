@@ -16,14 +16,13 @@ ghost use Rattle.graph_bases.specs.Painting.{IsSpread, IsLevel, Joins, JoinsRank
 ghost use Rattle.graph_bases.specs.Painting.{ArePassed, IsPassed, MayAdd, IsPaintingOf};
 ghost use Rattle.graph_bases.specs.Painting.{AreCandidates, IsDone, IsPainting, IsPainted};
 ghost use Rattle.graph_bases.specs.Painting.{AreBases, entry_cmp, work};
-ghost use Rattle.graph_bases.specs.Ranks.{FallsAlongParents, Ranking};
+ghost use Rattle.commit_search.specs.Ranks.{FallsAlongParents, Ranking};
 ghost use Rattle.graph_bases.specs.Trails.{trail_in};
 
 use crate::bases::Divergence;
 use crate::paint::{Coat, Coats, Paint};
-use crate::ranks::Ranks;
 use crate::sheet::CoatTable;
-use commit_search::CommitSource;
+use commit_search::{CommitSource, Ranks};
 use graph_format::Position;
 use std::alloc::{AllocError, Global};
 use std::collections::BinaryHeap;

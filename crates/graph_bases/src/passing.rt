@@ -10,14 +10,13 @@ ghost use Rattle.commit_search.specs.Positions.{numbers_of};
 ghost use Rattle.graph_bases.specs.Paint.{paint_at, passed, Grows};
 ghost use Rattle.graph_bases.specs.Painting.{IsSpread, IsLevel, IsPainting, IsPaintingOf, work};
 ghost use Rattle.graph_bases.specs.Painting.{ArePassed, PassesPaint, PassesOn};
-ghost use Rattle.graph_bases.specs.Ranks.{FallsAlongParents};
+ghost use Rattle.commit_search.specs.Ranks.{FallsAlongParents};
 
 use crate::paint::Paint;
 use crate::painting::Painting;
-use crate::ranks::Ranks;
 use crate::sheet::CoatTable;
-use commit_search::CommitSource;
 use commit_search::edges::parent_of;
+use commit_search::{CommitSource, Ranks};
 use graph_format::Position;
 use graph_format::parents::{ExtraEdge, ParentEdge};
 

@@ -7,7 +7,7 @@ use Rattle.gix_commitgraph.specs.Graph.{total}
 use Rattle.gix_commitgraph.specs.Sound.{Sound}
 use Rattle.commit_search.specs.Source.{Told, told_of}
 use Rattle.graph_bases.specs.Comparison.{IsComparisonBy, IsComparisonIn}
-use Rattle.graph_bases.specs.Ranks.{Ranking, FallsAlongParents}
+use Rattle.commit_search.specs.Ranks.{Ranking, FallsAlongParents}
 use Rattle.graph_history.specs.GraphComparison.{IsComparisonOf, IsComparisonOfBy}
 use Rattle.graph_bases.specs.declared.bases.Comparison.{Comparison}
 

@@ -7,7 +7,7 @@ use Rattle.gix_commitgraph.specs.Graph.{total}
 use Rattle.commit_search.specs.Positions.{numbers_of}
 use Rattle.commit_search.specs.Cardinality.{IsNumberOf}
 use Rattle.graph_bases.specs.Bases.{AreMergeBases, IsAhead, IsBehind, AreVisitsBy}
-use Rattle.graph_bases.specs.Ranks.{Ranking, by_date, by_generation}
+use Rattle.commit_search.specs.Ranks.{Ranking, by_date, by_generation}
 use Rattle.graph_bases.specs.declared.bases.Comparison.{Comparison}
 use Rattle.graph_chunks.specs.GraphDates.{AreRightByDecodedParents, graph_dates_refusal}
 use Rattle.graph_chunks.specs.GraphStoredDates.{dates_of}

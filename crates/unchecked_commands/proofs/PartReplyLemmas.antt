@@ -9,7 +9,7 @@ use Rattle.graph_format.specs.declared.Position.{Position}
 use Rattle.gix_commitgraph.specs.GraphLookup.{FoundIn}
 use Rattle.gix_commitgraph.specs.Sound.{Sound}
 use Rattle.gix_commitgraph.proofs.sound.SoundLemmas.{sound-scanned}
-use Rattle.graph_bases.specs.Ranks.{by_generation}
+use Rattle.commit_search.specs.Ranks.{by_generation}
 use Rattle.graph_parts.specs.declared.layer.StoredCommit.{StoredCommit}
 use Rattle.graph_unchecked.specs.Trusted.{AreIdsOfParents, AreParentsFound, IsCommitFound}
 use Rattle.graph_unchecked.specs.Unchecked.{IsAnswerAt, IsComparedUnchecked, IsFoundAmong, IsFoundBetween, IsToldUnchecked}

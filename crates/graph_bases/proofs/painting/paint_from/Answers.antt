@@ -6,7 +6,7 @@ use Rattle.commit_search.specs.Source.{Told}
 use Rattle.commit_search.specs.Positions.{numbers_of}
 use Rattle.graph_bases.specs.Paint.{is_painted}
 use Rattle.graph_bases.specs.declared.paint.Coat.{Coat}
-use Rattle.graph_bases.specs.Ranks.{FallsAlongParents}
+use Rattle.commit_search.specs.Ranks.{FallsAlongParents}
 use Rattle.graph_bases.proofs.CoatLemmas.{so_first, so_other, bare_level, begun_first, begun_more, begun_all}
 use Rattle.graph_bases.proofs.CoatLemmas.{number_at, number_contained}
 use Rattle.graph_bases.proofs.EdgeLemmas.{painted_queued, at_most_once}

@@ -2,7 +2,7 @@ use Rattle.std.proofs.Common.{◌≡◌, heap_items}
 use Rattle.commit_search.specs.Source.{Told}
 use Rattle.commit_search.specs.Positions.{numbers_of}
 use Rattle.graph_bases.specs.Painting.{IsPainting, IsPaintingOf, ArePassed, IsLevel}
-use Rattle.graph_bases.specs.Ranks.{FallsAlongParents}
+use Rattle.commit_search.specs.Ranks.{FallsAlongParents}
 use Rattle.graph_bases.proofs.CoatLemmas.{IsBegun}
 use Rattle.graph_bases.proofs.painting.paint_from.Given as goal
 

@@ -236,7 +236,7 @@ pub returns-clause-no : goal.returns-clause-no
 returns-clause-no g c = λ t said right reaches.
     let l = c.loop-place in
     let inv = l.invariant in
-    let never_rises = λ (p q : ℕ). c.generations_never_rise_along_walks.ensures t.history p q right in
+    let never_rises = right in
     let high : l.self.least ≤ generation_at t.history c.args.to.0 =
     omega (arith, inv.least, c.requires.least t (inv.kept t said)) in
     let empty : length l.stack.items ≡ 0 = omega (arith, c.in_default.ensures.cases.0) in
@@ -247,7 +247,7 @@ pub returns-clause-above : goal.returns-clause-above
 returns-clause-above g c = λ t said right no.
     let l = c.loop-place in
     let inv = l.invariant in
-    let never_rises = λ (p q : ℕ). c.generations_never_rise_along_walks.ensures t.history p q right in
+    let never_rises = right in
     let least : l.self.least ≡ generation_at t.history c.args.to.0 =
     omega (arith, inv.least, c.requires.least t (inv.kept t said)) in
     let empty : length l.stack.items ≡ 0 = omega (arith, c.in_default.ensures.cases.0) in

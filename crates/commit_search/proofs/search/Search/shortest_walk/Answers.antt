@@ -109,7 +109,7 @@ returns-then-eq-clause-right g c = λ t said right.
     let s = l.self in
     let query = query_told _ _ _ _ s l.visits l.invariant.query t said in
     let h = t.history in
-    let never_rises = λ (p q : ℕ). c.generations_never_rise_along_walks.ensures h p q right in
+    let never_rises = right in
     let walk = c.in_ok-walk.ensures in
     let at = sym c.commit_at.ensures ∙ eqb-true c.commit_at.result.0 c.args.to.0 (sym c.if-eq.ensures) in
     let here : l.visits < length (queued_by s) = omega (arith, c.loop-visits-test.true, c.len.ensures) in
@@ -141,7 +141,7 @@ returns-clause-right g c = λ t said right.
     let l = c.loop-visits in
     let h = t.history in
     let query = query_told _ _ _ _ l.self l.visits l.invariant.query t said in
-    let never_rises = λ (p q : ℕ). c.generations_never_rise_along_walks.ensures h p q right in
+    let never_rises = right in
     let all : length (queued_by l.self) ≤ l.visits = omega (arith, c.loop-visits-test.false, c.len.ensures) in
     record {
       walk = tt;

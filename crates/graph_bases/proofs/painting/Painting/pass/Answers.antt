@@ -6,7 +6,7 @@ use Rattle.graph_bases.specs.declared.paint.Coat.{Coat}
 use Rattle.graph_bases.proofs.CoatLemmas.{but_added}
 use Rattle.graph_bases.proofs.EdgeLemmas.{painted_queued}
 use Rattle.graph_bases.proofs.PaintLemmas.{so_passed, passed_one_side}
-use Rattle.graph_bases.proofs.RankLemmas.{step_never_rises}
+use Rattle.commit_search.proofs.RankLemmas.{step_never_rises}
 use Rattle.graph_bases.proofs.painting.Painting.pass.Goals as goal
 
 pub add-requires-clause-told : goal.add-requires-clause-told

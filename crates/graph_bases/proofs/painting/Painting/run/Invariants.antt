@@ -2,7 +2,7 @@ use Rattle.std.proofs.Common.{◌≡◌, ℕ, heap_items}
 use Rattle.commit_search.specs.Source.{Told}
 use Rattle.commit_search.specs.Positions.{numbers_of}
 use Rattle.graph_bases.specs.Painting.{IsPainting, IsPaintingOf, ArePassed, IsSpread, IsLevel, work}
-use Rattle.graph_bases.specs.Ranks.{FallsAlongParents}
+use Rattle.commit_search.specs.Ranks.{FallsAlongParents}
 use Rattle.graph_bases.proofs.painting.Painting.run.Given as goal
 
 abbrev pub invariant-loop-next : goal.invariant-loop-next

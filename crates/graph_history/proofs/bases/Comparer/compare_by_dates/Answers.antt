@@ -1,22 +1,10 @@
-use Rattle.std.proofs.Common.{◌≡◌, ℕ, length, arith}
+use Rattle.std.proofs.Common.{◌≡◌}
 use Rattle.graph_format.specs.StoredHistory.{history_of}
-use Rattle.gix_commitgraph.specs.Graph.{total}
 use Rattle.commit_search.specs.Positions.{numbers_of}
-use Rattle.graph_bases.specs.Ranks.{by_date}
+use Rattle.commit_search.specs.Ranks.{by_date}
 use Rattle.graph_chunks.specs.GraphStoredDates.{times_of}
 use Rattle.graph_history.proofs.ComparisonLemmas.{ranked_comparison}
 use Rattle.graph_history.proofs.bases.Comparer.compare_by_dates.Goals as goal
-
--- there is a date for each commit
-pub invariant_of-ranks : goal.invariant_of-ranks
-invariant_of-ranks c =
-    let layers = c.args.self.now.layers in
-    let graph : c.graph-graph.result.now ≡ layers = cc in
-    let opened = rw graph at c.num_commits-count.ensures.graph.opened in
-    let counted : length (history_of layers) ≡ total layers =
-    c.the_history_of_a_graph_is_that_of_its_layers.ensures.counted layers opened in
-    let count : c.num_commits-count.result ≡ total layers = rw graph at c.num_commits-count.ensures.commits in
-    omega (arith, count, counted, c.requires.dates.right.as_many)
 
 pub returns-clause-exact : goal.returns-clause-exact
 returns-clause-exact c =
@@ -27,4 +15,5 @@ returns-clause-exact c =
     let along =
     c.corrected_dates_fall_along_parents.ensures (history_of layers) (times_of layers) dates c.requires.dates.right in
     ranked_comparison layers c.compare_by.new.commits same (by_date dates) along c.args.first.0
-    (numbers_of c.args.others.now) c.compare_by.result (rw made at c.compare_by.ensures.within) c.compare_by.ensures.exact
+    (numbers_of c.args.others.now) c.compare_by.result (rw made at c.compare_by.ensures.within)
+    (rw c.new-ranks.ensures at c.compare_by.ensures.exact)

@@ -1,5 +1,5 @@
-use Rattle.graph_bases.proofs.RankLemmas.{dates_along}
-use Rattle.graph_bases.proofs.law.corrected_dates_fall_along_parents.Goals as goal
+use Rattle.commit_search.proofs.RankLemmas.{dates_along}
+use Rattle.commit_search.proofs.law.corrected_dates_fall_along_parents.Goals as goal
 
 pub returns : goal.returns
 returns c = λ history times dates right.

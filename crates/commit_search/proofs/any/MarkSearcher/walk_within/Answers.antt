@@ -4,7 +4,7 @@ use Rattle.commit_search.specs.Cardinality.{AtLeast}
 use Rattle.commit_search.specs.WalkAnswer.{IsShortestWalk, IsAtOrAbove}
 use Rattle.commit_search.specs.Positions.{numbers_of}
 use Rattle.commit_search.proofs.KnownAnswerLemmas.{one_walk, one_is_shortest, one_is_visited, none_is_visited, none_is_above}
-use Rattle.commit_search.proofs.any.MarkSearcher.ancestor_walk_within.Goals as goal
+use Rattle.commit_search.proofs.any.MarkSearcher.walk_within.Goals as goal
 
 pub returns-then-most-eq0-clause-more : goal.returns-then-most-eq0-clause-more
 returns-then-most-eq0-clause-more g c = λ t said.
@@ -51,7 +51,7 @@ returns-in_default-clause-answer g c = λ t said.
 pub returns-in_default-clause-right : goal.returns-in_default-clause-right
 returns-in_default-clause-right g c = λ t said right.
     let h = t.history in
-    let never_rises = λ (p q : ℕ). c.generations_never_rise_along_walks.ensures h p q right in
+    let never_rises = right.never_rise in
     record {
       walk = tt;
       none = (rw c.in_default.is at c.in_ok-least.ensures.none) t said right;

@@ -1,7 +1,7 @@
-use Rattle.std.proofs.Common.{ℕ, ◌∷◌, [], sym, eqb-true, arith}
+use Rattle.std.proofs.Common.{◌∷◌, [], sym, eqb-true, arith}
 use Rattle.commit_search.specs.WalkAnswer.{IsAtOrAbove}
 use Rattle.commit_search.proofs.KnownAnswerLemmas.{one_walk, none_is_visited, none_is_above}
-use Rattle.commit_search.proofs.any.MarkSearcher.is_ancestor_within.Goals as goal
+use Rattle.commit_search.proofs.any.MarkSearcher.told_within.Goals as goal
 
 pub returns-then-eq-clause-once : goal.returns-then-eq-clause-once
 returns-then-eq-clause-once g c = λ t said. none_is_visited (IsAtOrAbove t.history c.args.descendant.0 c.args.ancestor.0)
@@ -18,5 +18,5 @@ returns-in_default-clause-once g c = λ t said. none_is_visited (IsAtOrAbove t.h
 pub returns-in_default-clause-above : goal.returns-in_default-clause-above
 returns-in_default-clause-above g c = λ t said right no.
     none_is_above t.history c.args.descendant.0 c.args.ancestor.0
-    (λ (p q : ℕ). c.generations_never_rise_along_walks.ensures t.history p q right)
+    right.never_rise
     ((rw c.in_default.is at c.in_ok-least.ensures.below) t said)

@@ -1,5 +1,5 @@
-use Rattle.graph_bases.proofs.RankLemmas.{generations_along}
-use Rattle.graph_bases.proofs.law.generation_numbers_fall_along_parents.Goals as goal
+use Rattle.commit_search.proofs.RankLemmas.{generations_along}
+use Rattle.commit_search.proofs.law.generation_numbers_fall_along_parents.Goals as goal
 
 pub returns : goal.returns
 returns c = λ history counts.

@@ -6,8 +6,8 @@ use Rattle.graph_walks.specs.Dates.{number_at}
 use Rattle.graph_walks.specs.History.{Node, IsParent, generation_at}
 use Rattle.graph_walks.specs.Walks.{CountWalks, Reaches, IsProperAncestor}
 use Rattle.graph_walks.proofs.WalkPathLemmas.{Path, path_from_between}
-use Rattle.graph_bases.specs.Ranks.{Ranking, FallsAlongParents, by_date, by_generation}
-use Rattle.graph_bases.proofs.ReachLemmas.{first_step, proper_step, reaches_itself, step_reaches}
+use Rattle.commit_search.specs.Ranks.{Ranking, FallsAlongParents, by_date, by_generation}
+use Rattle.commit_search.proofs.ReachLemmas.{first_step, proper_step, reaches_itself, step_reaches}
 
 module _ {h : List Node} {k : Ranking} (along : FallsAlongParents h k) where
   pub step_never_rises : (p q : ℕ) → IsParent h p q → k.rank q ≤ k.rank p

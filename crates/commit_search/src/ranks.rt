@@ -1,16 +1,17 @@
-//! The number by which a search for merge bases orders commits.
+//! The number by which a search orders commits, or leaves some out.
 
 ghost use Rattle.std.specs.Prelude.{◌≡◌, ◌<◌, IfOk, IfErr};
 ghost use Rattle.commit_search.specs.Source.{Told};
-ghost use Rattle.graph_bases.specs.Ranks.{Ranking, by_generation};
+ghost use Rattle.commit_search.specs.Ranks.{Ranking, by_generation};
 
-use commit_search::CommitSource;
+use crate::source::CommitSource;
 use graph_format::Position;
 use graph_walks::GENERATION_NUMBER_MAX;
 
-/// What tells the rank of each commit of a source: a number by which a search for merge bases
-/// orders commits. It visits those with the highest ranks first. Where each commit below the cap
-/// has a greater rank than each of its parents, what the search answers is exact.
+/// What tells the rank of each commit of a source: a number that falls along parents, so that a
+/// search may go by it. A search for merge bases visits commits with the highest ranks first, and
+/// one for an ancestor leaves out those with a lower rank than that. Where each commit below the
+/// cap has a greater rank than each of its parents, what the search answers is exact.
 ///
 /// The generation number is such a number, and so is the corrected date: "generation number v1" and
 /// "v2" in Git's commit-graph design.

@@ -1,4 +1,4 @@
--- A number of each commit by which a search for merge bases orders commits: Git's "generation number" in either of its two
+-- A number of each commit by which a search orders commits, or leaves some out: Git's "generation number" in either of its two
 -- versions, a topological level or a corrected commit date (Git's commit-graph design).
 use Rattle.std.specs.Prelude.{ℕ, ◌<◌, ◌≤◌, min, List, length}
 use Rattle.graph_walks.specs.declared.TheConstants.{GENERATION_NUMBER_MAX}
