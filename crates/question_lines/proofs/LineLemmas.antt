@@ -2,18 +2,18 @@
 use Rattle.std.proofs.Common.{◌≡◌, ℕ, zero, suc, ◌+◌, ◌-◌, ◌<◌, ◌≤◌, Bool, true, false, List, [], ◌∷◌, ◌++◌, Option, Some}
 use Rattle.std.proofs.Common.{None, Vec, vec_len, length, not, take, drop, add-one, refl, sym, ap, subst, ◌∙◌, arith}
 use Rattle.std.proofs.Common.{append_assoc, append-nil, inl, inr, ⊎_elim}
-use Rattle.std.specs.Prelude.{◌==◌, min, slice_index, slice_range, if◌then◌else◌}
+use Rattle.std.specs.Prelude.{◌==◌, Err, IfErr, IfSome, Ok, OnErr, Result, min, slice_index, slice_range, if◌then◌else◌}
 use Rattle.std.specs.List.{slice_split}
 use Rattle.std.specs.Io.KnownBytes.{Consumes, IsAtEnd, Keeps, prepend_known}
 use Rattle.std.proofs.KnownBytes.{Consumes-kept}
 use Rattle.std.specs.Str.Lines.{lines, lines_of_parts, strip_carriage_return}
 use Rattle.std.specs.Global.{Global}
-use Rattle.std.proofs.lemmas.Bool.{cases_lt, eq-eqb, eqb-true, ne_eqb}
+use Rattle.std.proofs.lemmas.Bool.{cases_lt, eq-eqb, eqb-false, eqb-true, ne_eqb}
 use Rattle.std.proofs.lemmas.List.{drop-drop, drop-take, length-take, nil_from_length, take-append-drop, take_all, take_min}
 use Rattle.std.proofs.lemmas.List.{take_more}
-use Rattle.std.proofs.lemmas.List.Elements.{All-append, All-push}
+use Rattle.std.proofs.lemmas.List.Elements.{All-append, All-head, All-push}
 use Rattle.std.proofs.lemmas.List.Splits.{length-slice_split, slice_split_at, slice_split_none}
-use Rattle.question_lines.specs.InputLines.{IsKeptAs, LeavesBehind, TakesLine, HasNoLine, most_kept_bytes}
+use Rattle.question_lines.specs.InputLines.{BeginLine, IsKeptAs, LeavesBehind, TakesLine, HasNoLine, most_kept_bytes}
 use Rattle.std.proofs.Math.Nat.{min_comm}
 use Rattle.std.proofs.Math.Seq.{drop-cons, take-append-add}
 use Rattle.question_lines.specs.BytePlaces.{HasNone, IsFirstPlace}
@@ -195,3 +195,29 @@ taken_to_end before known last taken ahead left consumed kept none =
     (Consumes-kept before known (prepend_known left last) (taken ++ ahead) (consumes_ahead before known taken ahead consumed)
     kept) in
     subst (Consumes before last) (ap (λ (l : List ℕ). (taken ++ ahead) ++ l) none ∙ append-nil (taken ++ ahead)) more
+
+-- bytes of which none is a line feed are in front
+pub begin_without_feed : (text more bytes : List ℕ) → HasNone 10 text → 0 < length text → bytes ≡ text ++ more → BeginLine bytes
+begin_without_feed [] more bytes none some is = absurd (omega arith)
+begin_without_feed (byte ∷ text) more bytes none some is =
+    (byte, text ++ more, is, eqb-false byte 10 (All-head (λ (b : ℕ). (b == 10) ≡ false) byte text none))
+
+-- bytes were taken, and those ahead begin a line
+pub begin_taken : (before known : Option (List ℕ)) (taken ahead : List ℕ) → Consumes before (prepend_known ahead known) taken
+    → HasNone 10 taken → BeginLine ahead → IfSome before BeginLine
+begin_taken None known taken ahead consumed none begun = tt
+begin_taken (Some bytes) None taken ahead consumed none begun = absurd consumed
+begin_taken (Some bytes) (Some more) [] ahead consumed none begun =
+    (begun.0, begun.1 ++ more, consumed ∙ ap (λ (l : List ℕ). l ++ more) begun.2, begun.3)
+begin_taken (Some bytes) (Some more) (byte ∷ taken) ahead consumed none begun =
+    begin_without_feed (byte ∷ taken) (ahead ++ more) bytes none (omega arith) consumed
+
+-- what holds holds where something ended with an error
+pub on_error : {T E P : Type 0} (result : Result T E) → P → OnErr result P
+on_error (Ok value) holds = tt
+on_error (Err error) holds = holds
+
+-- what holds of all errors holds of one
+pub if_error : {T E : Type 0} {P : E → Type 0} (result : Result T E) → ((error : E) → P error) → IfErr result P
+if_error (Ok value) all = tt
+if_error (Err error) all = all error

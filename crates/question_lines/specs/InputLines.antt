@@ -1,5 +1,5 @@
 -- The lines of an input, read one after another.
-use Rattle.std.specs.Prelude.{◌≡◌, ◌⊎◌, ◌<◌, ℕ, List, [], ◌∷◌, ◌++◌, Option, Some, None, ⊤, length}
+use Rattle.std.specs.Prelude.{◌≡◌, ◌≢◌, ◌⊎◌, ◌<◌, ℕ, List, [], ◌∷◌, ◌++◌, Option, Some, None, ⊤, length}
 use Rattle.std.specs.Str.Lines.{lines}
 
 -- the most bytes of a line that may ask something: a megabyte
@@ -29,6 +29,10 @@ LeavesBehind line (Some bytes) (Some left) =
 -- known bytes begin with a line, which is kept so, and the bytes left are what follows it
 abbrev pub TakesLine : Option (List ℕ) → Option (List ℕ) → List ℕ → Type 0
 TakesLine before left kept = (line : List ℕ) × LeavesBehind line before left × IsKeptAs line kept
+
+-- these bytes begin with one of a line, which is no line feed
+abbrev pub BeginLine : List ℕ → Type 0
+BeginLine bytes = (byte : ℕ) × (rest : List ℕ) × (bytes ≡ byte ∷ rest) × (byte ≢ 10)
 
 -- there was no byte, and none is left
 abbrev pub HasNoLine : Option (List ℕ) → Option (List ℕ) → Type 0

@@ -1,10 +1,11 @@
 //! Lines, read one after another.
 
 ghost use Rattle.std.specs.Prelude.{◌≡◌, ◌≢◌, ◌⊎◌, ◌≤◌, ◌++◌, ◌∷◌, [], true, false, length, take};
-ghost use Rattle.std.specs.Prelude.{IfErr, IfOk, IsTrue, OnOk, List, ℕ};
+ghost use Rattle.std.specs.Prelude.{◌<◌, IfErr, IfOk, IfSome, IsTrue, OnErr, OnOk, List, ℕ};
 ghost use Rattle.std.specs.Io.KnownBytes.{IsAtEnd, Keeps, prepend_known};
 ghost use Rattle.std.specs.Str.Lines.{strip_carriage_return};
-ghost use Rattle.question_lines.specs.InputLines.{TakesLine, HasNoLine, most_kept_bytes};
+ghost use Rattle.question_lines.specs.InputLines.{TakesLine, HasNoLine, BeginLine};
+ghost use Rattle.question_lines.specs.InputLines.{most_kept_bytes};
 ghost use Rattle.question_lines.specs.BytePlaces.{HasNone};
 
 use crate::place::place_of;
@@ -73,8 +74,8 @@ impl LineReader {
     ///
     /// # Errors
     ///
-    /// `Device` where a read failed, and `OutOfMemory` where there is no memory for the line. The
-    /// reader is not to be asked again then.
+    /// `Device` where a read failed, and `OutOfMemory` where there is no memory for the line, which
+    /// has a byte then. The reader is not to be asked again.
     pub fn read<R: Read>(&mut self, reader: &mut R) -> Result<bool, ReadError>
         ensures line { IfOk result (λ more. more ≡ true
             → TakesLine (prepend_known self.old.ahead (R.remaining reader.old))
@@ -83,6 +84,8 @@ impl LineReader {
             → HasNoLine (prepend_known self.old.ahead (R.remaining reader.old))
             (prepend_known self.new.ahead (R.remaining reader.new))) }
         ensures error { IfErr result (λ error. error ≢ ReadError.NotOpened) }
+        ensures memory { IfErr result (λ error. error ≡ ReadError.OutOfMemory
+            → IfSome (prepend_known self.old.ahead (R.remaining reader.old)) BeginLine) }
     {
         self.line.clear();
         for _ in 0..u64::MAX {
@@ -108,6 +111,7 @@ impl LineReader {
             × (self.new.ahead ≡ [])
             × (self.new.line ≡ take most_kept_bytes (self.old.line ++ self.old.ahead))) }
         ensures error { IfErr result (λ error. error ≡ ReadError.OutOfMemory) }
+        ensures memory { OnErr result (BeginLine self.old.ahead) }
     {
         let ahead = &self.piece[self.start..self.end];
         match place_of(b'\n', ahead) {
@@ -164,6 +168,7 @@ fn keep(line: &mut Vec<u8>, bytes: &[u8]) -> Result<(), ReadError>
     ensures kept { OnOk result
         (line.new.items ≡ take most_kept_bytes (line.old.items ++ bytes.now)) }
     ensures error { IfErr result (λ error. error ≡ ReadError.OutOfMemory) }
+    ensures memory { OnErr result (0 < length bytes.now) }
 {
     let room = MOST_KEPT_BYTES - line.len();
     let kept = &bytes[..bytes.len().min(room)];

@@ -6,7 +6,8 @@ use Rattle.std.proofs.lemmas.List.{length-take}
 use Rattle.std.proofs.lemmas.List.Elements.{All-nil}
 use Rattle.std.specs.Prelude.{◌==◌}
 use Rattle.question_lines.specs.InputLines.{LineView, most_kept_bytes}
-use Rattle.question_lines.proofs.LineLemmas.{consumes_ahead, consumes_none, no_bytes, none_append, some_bytes}
+use Rattle.question_lines.proofs.LineLemmas.{begin_taken, consumes_ahead, consumes_none, if_error, no_bytes, none_append}
+use Rattle.question_lines.proofs.LineLemmas.{some_bytes}
 use Rattle.question_lines.proofs.LineLemmas.{takes_last, takes_line, takes_none, taken_more, taken_to_end}
 use Rattle.question_lines.proofs.lines.LineReader.read.Goals as goal
 
@@ -17,6 +18,16 @@ pub take_to_feed-requires : goal.take_to_feed-requires
 take_to_feed-requires g c =
     let taken = c.loop.invariant in
     omega (arith, ap length taken.2, length-take most_kept_bytes taken.0)
+
+pub returns-in_err-take_to_feed-clause-memory : goal.returns-in_err-take_to_feed-clause-memory
+returns-in_err-take_to_feed-clause-memory g c =
+    let known = g.R.Read.remaining in
+    let taken = c.loop.invariant in
+    let view = ap (λ (v : LineView). v.ahead) c.self.view_is in
+    let consumed = rw view at taken.3 in
+    if_error c.from_residual.result
+    (λ error wanted. begin_taken (prepend_known c.args.self.now.ahead (known c.args.reader.now)) (known c.loop.reader) taken.0
+    c.loop.self.ahead consumed taken.1 c.in_err-take_to_feed.ensures.memory)
 
 pub returns-then-branch-clause-line : goal.returns-then-branch-clause-line
 returns-then-branch-clause-line g c = λ yes.
