@@ -82,11 +82,11 @@ impl Opener for Taking<'_> {
 
     ghost is_ready = { λ taking. taking.graph.now.options ≡ plain_options };
 
-    ghost of_file = { λ _ known path old new before after.
+    ghost of_file = { λ _ known _ path old new before after.
         TakesBy (OpensStopping known (λ tree. file_opened tree path) old new)
         before.graph.now.layers after.graph.now.layers };
 
-    ghost of_chain = { λ _ known path old new before after.
+    ghost of_chain = { λ _ known _ path old new before after.
         TakesBy (OpensStopping known (λ tree. chain_opened tree path) old new)
         before.graph.now.layers after.graph.now.layers };
 
