@@ -381,7 +381,8 @@ pub said_before : {A K : Type 0} (known : A → K) (Says : A → Told → Type 0
 said_before known Says steady old new later t said ends same = steady later old t (ap known ends ∙ same) said
 
 pub seen_after : {A : Type 0} (Says : A → Told → Type 0) (ranking other : Told → Ranking) (least low : ℕ) (new later : A)
-    (t : Told) → Says later t → later ≡ new → other ≡ ranking → low ≡ least → Seen (Says new) other low (seen_told (ranking t) least t)
+    (t : Told) → Says later t → later ≡ new → other ≡ ranking → low ≡ least
+    → Seen (Says new) other low (seen_told (ranking t) least t)
 seen_after {A = A} Says ranking other least low new later t said ends same equal = (
   t,
   subst (λ (a : A). Says a t) ends said,

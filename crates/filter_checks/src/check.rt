@@ -14,9 +14,9 @@ use graph_chunks::filters::GraphFilters;
 use std::alloc::Global;
 use tree_changes::{Limits, TreeSource};
 
-/// Checks the filters of a right graph: whether each that was computed answers each path as possible
-/// that its commit touches, which are those that it changes from the tree of its first parent on,
-/// and the directories that lead to these.
+/// Checks the filters of a right graph: whether each that was computed answers each path as
+/// possible that its commit touches, which are those that it changes from the tree of its first
+/// parent on, and the directories that lead to these.
 ///
 /// The commits are gone through in the order of their positions. Trees are read only for a filter
 /// that has a bit which is not set, as [`ChangesInTurn`](tree_changes::ChangesInTurn) reads them;

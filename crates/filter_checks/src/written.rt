@@ -25,8 +25,8 @@ use tree_changes::TreeSource;
 ///
 /// # Errors
 ///
-/// The first commit whose filter is refused: `Differs` where Git writes another one; `Trees` where a
-/// bound ends the way, or the source refuses a tree that has to be read, or memory ran out.
+/// The first commit whose filter is refused: `Differs` where Git writes another one; `Trees` where
+/// a bound ends the way, or the source refuses a tree that has to be read, or memory ran out.
 pub fn check_written_filters<S: TreeSource>(
     alloc: Global,
     graph: &Graph,

@@ -120,8 +120,8 @@ fn seventeens(kind: Kind) -> ObjectId {
     }
 }
 
-/// Puts the tree of a row with the trees below it into a source, and answers its id, which has to be
-/// the one that Git gives it.
+/// Puts the tree of a row with the trees below it into a source, and answers its id, which has to
+/// be the one that Git gives it.
 pub fn put_large(
     rt: &impl Abort,
     alloc: Global,

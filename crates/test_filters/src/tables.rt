@@ -587,8 +587,9 @@ pub const MERGES: &[FilterRow] = &[
     (Some(EMPTY), NAMED, "56470ba1ce5540f155"),
 ];
 
-/// The filters of the second version of the hash, where they are not those of the first: calculated,
-/// since this version of Git writes none, by a program that finds those of the first, too.
+/// The filters of the second version of the hash, where they are not those of the first. They are
+/// calculated, since this version of Git writes none, by a program that finds those of the first,
+/// too.
 pub const UNSIGNED: &[FilterRow] = &[
     (None, NAMED, "c2c4196948ccc8df79"),
     (Some(NAMED), EMPTY, "c2c4196948ccc8df79"),

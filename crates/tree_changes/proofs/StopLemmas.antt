@@ -9,7 +9,7 @@ use Rattle.std.specs.Cmp.Lexicographic.{slice_cmp}
 use Rattle.std.proofs.lemmas.Cmp.{nat_list_cmp_total, tied_itself}
 use Rattle.std.proofs.lemmas.List.Elements.{All-nil, All-cons, All-head, All-tail}
 use Rattle.std.proofs.lemmas.List.Sums.{sum_by-cons}
-use Rattle.tree_changes.specs.Stands.{World, TreePath, id_of, entries_of, slashed, HasOtherDirectory, directory_at}
+use Rattle.tree_changes.specs.Stands.{World, TreePath, item_id, entries_of, slashed, HasOtherDirectory, directory_at}
 use Rattle.tree_changes.specs.Changes.{one_if_some, trees_at, AreDistinctPaths, IsMuch, IsDeeper, IsNeeded}
 use Rattle.tree_changes.specs.Walk.{Change, IsChange, IsEarlier, change_key, end_if, trees_of, AreRisingChanges}
 
@@ -42,7 +42,7 @@ module _ (world : World) (old new : Option (List ℕ)) where
   is_deeper c names h e long = record { path = path_of c; other = other_directory c h e; long = long }
 
   pub is_needed : (c : Change) (id : List ℕ) → IsBetween c → c.directory ≡ true
-      → (id_of c.old ≡ Some id) ⊎ (id_of c.new ≡ Some id)
+      → (item_id c.old ≡ Some id) ⊎ (item_id c.new ≡ Some id)
       → IsNeeded world old new id
   is_needed c id h e which =
       let P : Bool → Type 0 = λ d. IsChange world (entries_of world old) (entries_of world new)
@@ -51,7 +51,7 @@ module _ (world : World) (old new : Option (List ℕ)) where
       inr (inr (
         path_of c,
         other_directory c h e,
-        elim which [ inl x ↦ inl (ap id_of k.0 ∙ x) | inr y ↦ inr (ap id_of k.1 ∙ y) ],
+        elim which [ inl x ↦ inl (ap item_id k.0 ∙ x) | inr y ↦ inr (ap item_id k.1 ∙ y) ],
       ))
 
   trees_are : (c : Change) → IsBetween c → c.directory ≡ true

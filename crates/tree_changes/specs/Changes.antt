@@ -4,8 +4,8 @@ use Rattle.std.specs.List.{sum_by}
 use Rattle.std.specs.Ordering.{nat_cmp}
 use Rattle.std.specs.Cmp.Lexicographic.{slice_cmp}
 use Rattle.std.specs.declared.cmp.Ordering.TheVariants.{Less}
-use Rattle.tree_objects.specs.TreeContents.{IsName}
-use Rattle.tree_changes.specs.Stands.{World, TreePath, joined, IsChanged, HasOtherDirectory, directory_at, id_of}
+use Rattle.tree_objects.specs.Trees.{IsName}
+use Rattle.tree_changes.specs.Stands.{World, TreePath, joined, IsChanged, HasOtherDirectory, directory_at, item_id}
 use Rattle.tree_changes.specs.declared.changes.Refusal.{Refusal}
 use Rattle.tree_changes.specs.declared.changes.Refusal.TheVariants.{TooMany, TooDeep, TooMuch, Source, OutOfMemory}
 
@@ -71,7 +71,8 @@ pub record IsMuch (world : World) (old new : Option (List ℕ)) (most : ℕ) : T
 
 -- the id is that of the directory at a path, in one of two trees
 abbrev pub IsIdAt : World → Option (List ℕ) → Option (List ℕ) → TreePath → List ℕ → Type 0
-IsIdAt world old new path id = (id_of (directory_at world old path) ≡ Some id) ⊎ (id_of (directory_at world new path) ≡ Some id)
+IsIdAt world old new path id =
+    (item_id (directory_at world old path) ≡ Some id) ⊎ (item_id (directory_at world new path) ≡ Some id)
 
 -- the tree with this id has to be read: it is one of both, or a directory at a path where other directories stand
 abbrev pub IsNeeded : World → Option (List ℕ) → Option (List ℕ) → List ℕ → Type 0
