@@ -1,5 +1,6 @@
 //! A graph in memory, as a source of commits.
 
+ghost use Rattle.std.proofs.Common.{ap, ◌∙◌};
 ghost use Rattle.std.specs.Prelude.{◌≡◌, ℕ, List, length};
 ghost use Rattle.graph_format.specs.Layer.{Layer};
 ghost use Rattle.graph_format.specs.StoredHistory.{history_of};
@@ -11,7 +12,7 @@ ghost use Rattle.graph_ancestors.specs.Commits.{IsReading};
 ghost use Rattle.commit_search.specs.Source.{told_of};
 
 use crate::commits::{generation_of, layer_of, list_of, parent_fields_of};
-use commit_search::CommitSource;
+use commit_search::{CommitSource, SteadySource};
 use gix_commitgraph::file::commit::{ExtraEdge, ParentEdge};
 use gix_commitgraph::law::graph::{
     a_position_lies_in_one_layer, the_history_of_a_graph_is_that_of_its_layers,
@@ -117,4 +118,8 @@ impl<'g> CommitSource for InMemory<'g> {
         a_position_lies_in_one_layer();
         Ok(ExtraEdge::from_raw(list_of(self.graph(), layer)[index as usize]))
     }
+}
+
+impl<'g> SteadySource for InMemory<'g> {
+    ghost steady = { λ one other t same told. told ∙ ap told_of same };
 }

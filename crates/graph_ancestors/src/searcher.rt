@@ -5,11 +5,13 @@ ghost use Rattle.graph_walks.specs.Walks.{Reaches};
 ghost use Rattle.graph_format.specs.StoredHistory.{history_of};
 ghost use Rattle.gix_commitgraph.specs.Graph.{total};
 ghost use Rattle.gix_commitgraph.specs.Sound.{Sound};
-ghost use Rattle.commit_search.specs.WalkAnswer.{IsAnswer, MayLead};
+ghost use Rattle.commit_search.specs.Ranks.{FallsAlongParents};
+ghost use Rattle.commit_search.specs.Source.{told_of};
+ghost use Rattle.commit_search.specs.WalkAnswer.{BothMayLead, IsAnswer, IsAnswerBy, MayLead};
 
 use crate::Reached;
 use crate::in_memory::InMemory;
-use commit_search::AnySearcher;
+use commit_search::{AnySearcher, Ranks};
 use gix_commitgraph::{Graph, Position};
 use std::alloc::{AllocError, Global};
 use std::marker::Model;
@@ -107,5 +109,68 @@ impl<'g> Searcher<'g> {
         let _graph = self.graph();
         self.searcher
             .is_ancestor(&mut self.commits, ancestor, descendant)
+    }
+
+    /// What [`Searcher::ancestor_walk`] answers, by a search that leaves out each commit whose
+    /// generation number or whose rank is below that of `to`. The ranks fall along parents, as
+    /// corrected dates do: see [`Ranks`]. It finds a shortest walk exactly where there is one.
+    ///
+    /// # Errors
+    ///
+    /// An allocation failed: only where the two commits are one, or both numbers allow a walk. The
+    /// searcher can be asked again.
+    pub fn ancestor_walk_by<R: Ranks<InMemory<'g>>>(
+        &mut self,
+        ranks: &R,
+        from: Position,
+        to: Position,
+    ) -> Result<Reached, AllocError>
+        requires from { from.0 < total self.old }
+        requires to { to.0 < total self.old }
+        requires ranks { FallsAlongParents (history_of self.old)
+            (R.ranking ranks.now (told_of self.old)) }
+        ensures graph { self.new ≡ self.old }
+        ensures answer { IfOk result (IsAnswerBy (history_of self.old)
+            (R.ranking ranks.now (told_of self.old)) from.0 to.0) }
+        ensures refused { OnErr result ((from.0 ≡ to.0) ⊎ BothMayLead (history_of self.old)
+            (R.ranking ranks.now (told_of self.old)) from.0 to.0) }
+    {
+        // The contract of `graph` says that the graph is right.
+        let _graph = self.graph();
+        self.searcher
+            .ancestor_walk_by(&mut self.commits, ranks, from, to)
+    }
+
+    /// What [`Searcher::is_ancestor`] answers, by a search that leaves out commits as
+    /// [`Searcher::ancestor_walk_by`] does.
+    ///
+    /// # Errors
+    ///
+    /// An allocation failed: only where the commits are two, and both numbers allow a walk. The
+    /// searcher can be asked again.
+    pub fn is_ancestor_by<R: Ranks<InMemory<'g>>>(
+        &mut self,
+        ranks: &R,
+        ancestor: Position,
+        descendant: Position,
+    ) -> Result<bool, AllocError>
+        requires ancestor { ancestor.0 < total self.old }
+        requires descendant { descendant.0 < total self.old }
+        requires ranks { FallsAlongParents (history_of self.old)
+            (R.ranking ranks.now (told_of self.old)) }
+        ensures graph { self.new ≡ self.old }
+        ensures found { IfOk result (λ found.
+            IsTrue found ↔ Reaches (history_of self.old) descendant.0 ancestor.0) }
+        ensures refused { OnErr result ((descendant.0 ≢ ancestor.0)
+            × BothMayLead (history_of self.old) (R.ranking ranks.now (told_of self.old))
+            descendant.0 ancestor.0) }
+    {
+        // The contract of `graph` says that the graph is right.
+        let _graph = self.graph();
+        let searcher = &mut self.searcher;
+        match searcher.is_ancestor_by(&mut self.commits, ranks, ancestor, descendant) {
+            Ok((found, _)) => Ok(found),
+            Err(error) => Err(error),
+        }
     }
 }
