@@ -43,6 +43,7 @@ impl Folder for Changing {
         self.memory.is_dir(alloc, path)
     }
 
+    #[tactic(auto, using(crate::proofs::ReadLemmas::held_by_read))]
     fn read(&mut self, alloc: Global, path: &str) -> Result<Vec<u8>, ReadError> {
         if self.reads_before == 0 {
             mem::swap(&mut self.memory, &mut self.later);
