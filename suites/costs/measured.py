@@ -18,8 +18,8 @@ HEADER = "valgrind/callgrind.h"
 PART = re.compile(r"^totals: (\d+)$", re.MULTILINE)
 """What valgrind counted up to some place."""
 
-SECONDS = 1800
-"""A run that takes longer hangs."""
+SECONDS = 3600
+"""A run that takes longer hangs. The calls about three large shapes took 19 minutes beside many other programs."""
 
 PREFIX = "counted_"
 """What stands before the names of the calls in the library that is counted."""
