@@ -1,3 +1,4 @@
 pub mod AnswerLemmas
 pub mod TreeLemmas
 pub mod TouchedLemmas
+pub mod WrittenLemmas

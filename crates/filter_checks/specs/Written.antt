@@ -38,8 +38,7 @@ abbrev pub IsOtherThanWritten : {E : Type 0} → (List ℕ → E → Type 0) →
 IsOtherThanWritten refused settings bounds world old new all p (Lacks path) = ⊥
 IsOtherThanWritten refused settings bounds world old new all p (Trees refusal) =
     (refusal ≢ TooMany) × IsChangesRefusal refused settings.most bounds.names bounds.trees world old new refusal
-IsOtherThanWritten refused settings bounds world old new all p Differs =
-    (written : List ℕ) × IsWritten settings (IsChangedText world old new) written × (slice_get all.filters p ≢ Some written)
+IsOtherThanWritten refused settings bounds world old new all p Differs = ¬ IsWrittenFor settings world old new all p
 
 -- Which filter is refused first, and why: those before it are what Git writes.
 pub record IsFirstOther {E : Type 0} (refused : List ℕ → E → Type 0) (settings : Settings) (bounds : Bounds) (world : World)

@@ -1,6 +1,6 @@
 //! The filters of a graph against those that Git writes.
 
-ghost use Rattle.std.specs.Prelude.{◌≡◌, ◌<◌, IfErr, OnOk, length};
+ghost use Rattle.std.specs.Prelude.{◌≡◌, ◌<◌, ◌↔◌, All, IfErr, IsTrue, OnOk, length};
 ghost use Rattle.gix_commitgraph.specs.Graph.{total};
 ghost use Rattle.gix_commitgraph.specs.Sound.{Sound};
 ghost use Rattle.tree_changes.specs.Stands.{World};
@@ -86,8 +86,17 @@ fn check_one<S: TreeSource>(
         Ok(written) => written,
         Err(refusal) => return Err(FilterRefusal::Trees(refusal)),
     };
-    if written.as_slice() != filter {
-        return Err(FilterRefusal::Differs);
+    if are_same(written.as_slice(), filter) {
+        return Ok(());
     }
-    Ok(())
+    Err(FilterRefusal::Differs)
+}
+
+/// Whether two filters are the same.
+fn are_same(one: &[u8], other: &[u8]) -> bool
+    ensures same { IsTrue result ↔ (one.now ≡ other.now) }
+    ensures one { All (λ byte. byte < 256) one.now }
+    ensures other { All (λ byte. byte < 256) other.now }
+{
+    one == other
 }

@@ -1,11 +1,11 @@
 //! A history of eight commits as `git commit-graph write --reachable --changed-paths` writes it
-//! (Git 2.39.5, on x86-64), and the paths that its filters lack where a bit is cleared, as a program
-//! calculated them that finds the bits which Git sets.
+//! (Git 2.39.5, on x86-64), and the paths that its filters lack where a bit is cleared, as a
+//! program calculated them that finds the bits which Git sets.
 //!
 //! A root has the tree `BASE`, a child of it `NESTED`, and a child of that `HIGH`. A merge of the
 //! last with the root has `FOLDED`, and so has its only child. Another child of the root has
-//! `NAMED`. Two more roots have `CHAIN_6`, and a tree of 513 files that stands in no table: its
-//! filter has all bits.
+//! `NAMED`. Two more roots have a large tree of 513 files, whose filter has all bits, and
+//! `CHAIN_6`.
 
 /// A bit of the file: the byte, and the bit of it; and if it is cleared, the position of the commit
 /// whose filter is refused, and the path that it lacks.

@@ -587,7 +587,7 @@ pub const MERGES: &[FilterRow] = &[
     (Some(EMPTY), NAMED, "56470ba1ce5540f155"),
 ];
 
-/// The filters of the second version of the hash, where they are not those of the first. They are
+/// The filters of the second version of the hash, where they are not those of the first:
 /// calculated, since this version of Git writes none, by a program that finds those of the first,
 /// too.
 pub const UNSIGNED: &[FilterRow] = &[

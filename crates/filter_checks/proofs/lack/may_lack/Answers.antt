@@ -21,5 +21,5 @@ pub returns-in-Possible-clause-possible : goal.returns-in-Possible-clause-possib
 returns-in-Possible-clause-possible c = λ full computed path.
     let filter = c.filter_at.result.now in
     full_answers c.args.filters.now c.args.pos.0 filter _ path c.filter_at.ensures
-    (c.is_full.ensures.0 (is_true c.is_full.result full))
-    (c.in-Possible.ensures.possible filter c.filter_at.ensures refl) computed
+    (c.is_full.ensures.0 (is_true c.is_full.result full)) (c.in-Possible.ensures.possible filter c.filter_at.ensures refl)
+    computed
