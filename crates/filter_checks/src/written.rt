@@ -82,18 +82,21 @@ fn check_one<S: TreeSource>(
     }
     let old = parent_tree(graph, pos);
     let new = root_tree(graph, pos);
-    let written = match path_filter(alloc, source, old, new, settings, bounds) {
-        Ok(written) => written,
+    let made = match path_filter(alloc, source, old, new, settings, bounds) {
+        Ok(made) => made,
         Err(refusal) => return Err(FilterRefusal::Trees(refusal)),
     };
-    if are_same(written.as_slice(), filter) {
+    let written = made.as_slice();
+    if are_same(written, filter) {
         return Ok(());
     }
     Err(FilterRefusal::Differs)
 }
 
-/// Whether two filters are the same.
+/// Whether two filters are the same, which are bytes.
 fn are_same(one: &[u8], other: &[u8]) -> bool
+    requires one { All (λ byte. byte < 256) one.now }
+    requires other { All (λ byte. byte < 256) other.now }
     ensures same { IsTrue result ↔ (one.now ≡ other.now) }
     ensures one { All (λ byte. byte < 256) one.now }
     ensures other { All (λ byte. byte < 256) other.now }

@@ -4,8 +4,8 @@
 //!
 //! A root has the tree `BASE`, a child of it `NESTED`, and a child of that `HIGH`. A merge of the
 //! last with the root has `FOLDED`, and so has its only child. Another child of the root has
-//! `NAMED`. Two more roots have a large tree of 513 files, whose filter has all bits, and
-//! `CHAIN_6`.
+//! `NAMED`. Two more roots have `CHAIN_6`, and a large tree of 513 files, whose filter has all
+//! bits.
 
 /// A bit of the file: the byte, and the bit of it; and if it is cleared, the position of the commit
 /// whose filter is refused, and the path that it lacks.
