@@ -9,7 +9,7 @@ use Rattle.std.proofs.lemmas.Cmp.{nat_list_cmp_total}
 use Rattle.std.proofs.lemmas.List.Elements.{All-contains, Contains-push, Contains-push_cases}
 use Rattle.graph_chunks.specs.GraphFilters.{FiltersOfGraph}
 use Rattle.tree_changes.specs.Stands.{World, joined}
-use Rattle.tree_changes.specs.Changes.{AreChanged, AreFirstChanged, AreMore, IsChangedText, IsChangesRefusal}
+use Rattle.tree_changes.specs.Changes.{AreChanged, AreFirstChanged, AreMore, IsChangedText, IsChangeRefusal}
 use Rattle.tree_changes.specs.declared.changes.Limits.{Limits}
 use Rattle.filter_checks.specs.RightFilters.{HasAllTouched}
 use Rattle.filter_checks.specs.Refused.{ArePossibleAlong, IsFirstAbsent, IsFirstLack, IsFilterRefusal, IsLackOf}
@@ -80,5 +80,5 @@ pub lack_is : {E : Type 0} (refused : List ℕ → E → Type 0) (limits : Limit
 lack_is refused limits world old new all p path (Lacks text) e h =
     subst (IsFirstLack all p (IsChangedText world old new)) (sym e) h
 lack_is refused limits world old new all p path (Trees refusal) e h =
-    subst (λ r. IsChangesRefusal refused limits.paths limits.names limits.trees world old new r) (sym e) tt
+    subst (λ r. IsChangeRefusal refused limits.paths limits.names limits.trees world old new r) (sym e) tt
 lack_is refused limits world old new all p path Differs e h = absurd e

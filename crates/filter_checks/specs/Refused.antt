@@ -7,7 +7,7 @@ use Rattle.graph_format.specs.Layer.{Layer}
 use Rattle.gix_commitgraph.specs.Graph.{total}
 use Rattle.graph_chunks.specs.GraphFilters.{FiltersOfGraph}
 use Rattle.tree_changes.specs.Stands.{World}
-use Rattle.tree_changes.specs.Changes.{IsChangedText, IsChangesRefusal}
+use Rattle.tree_changes.specs.Changes.{IsChangedText, IsChangeRefusal}
 use Rattle.tree_changes.specs.declared.changes.Limits.{Limits}
 use Rattle.tree_changes.specs.declared.changes.Refusal.TheVariants.{OutOfMemory}
 use Rattle.path_filters.specs.Touched.{LeadsTo}
@@ -47,7 +47,7 @@ abbrev pub IsFilterRefusal : {E : Type 0} → (List ℕ → E → Type 0) → Li
     → FiltersOfGraph → ℕ → FilterRefusal E → Type 0
 IsFilterRefusal refused limits world old new all p (Lacks path) = IsFirstLack all p (IsChangedText world old new) path.items
 IsFilterRefusal refused limits world old new all p (Trees refusal) =
-    IsChangesRefusal refused limits.paths limits.names limits.trees world old new refusal
+    IsChangeRefusal refused limits.paths limits.names limits.trees world old new refusal
 IsFilterRefusal refused limits world old new all p Differs = ⊥
 
 -- the same of the trees of the first parent and of the commit at a position

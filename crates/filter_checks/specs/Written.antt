@@ -4,7 +4,7 @@ use Rattle.graph_format.specs.Layer.{Layer}
 use Rattle.gix_commitgraph.specs.Graph.{total}
 use Rattle.graph_chunks.specs.GraphFilters.{FiltersOfGraph}
 use Rattle.tree_changes.specs.Stands.{World}
-use Rattle.tree_changes.specs.Changes.{IsChangedText, IsChangesRefusal}
+use Rattle.tree_changes.specs.Changes.{IsChangedText, IsChangeRefusal}
 use Rattle.tree_changes.specs.declared.changes.Refusal.TheVariants.{TooMany}
 use Rattle.path_filters.specs.Made.{IsWritten}
 use Rattle.path_filters.specs.declared.filter.Bounds.{Bounds}
@@ -37,7 +37,7 @@ abbrev pub IsOtherThanWritten : {E : Type 0} → (List ℕ → E → Type 0) →
     → Option (List ℕ) → FiltersOfGraph → ℕ → FilterRefusal E → Type 0
 IsOtherThanWritten refused settings bounds world old new all p (Lacks path) = ⊥
 IsOtherThanWritten refused settings bounds world old new all p (Trees refusal) =
-    (refusal ≢ TooMany) × IsChangesRefusal refused settings.most bounds.names bounds.trees world old new refusal
+    (refusal ≢ TooMany) × IsChangeRefusal refused settings.most bounds.names bounds.trees world old new refusal
 IsOtherThanWritten refused settings bounds world old new all p Differs = ¬ IsWrittenFor settings world old new all p
 
 -- Which filter is refused first, and why: those before it are what Git writes.

@@ -4,7 +4,7 @@ ghost use Rattle.std.specs.Prelude.{◌≡◌, ◌≢◌, ◌∷◌, [], Contain
 ghost use Rattle.std.specs.Prelude.{option_map};
 ghost use Rattle.gix_hash_core.specs.Oid.{oid_bytes};
 ghost use Rattle.tree_changes.specs.Stands.{World};
-ghost use Rattle.tree_changes.specs.Changes.{IsChangedText, IsChangesRefusal};
+ghost use Rattle.tree_changes.specs.Changes.{IsChangedText, IsChangeRefusal};
 ghost use Rattle.tree_changes.specs.declared.changes.Refusal.TheVariants.{TooMany};
 ghost use Rattle.path_filters.specs.Made.{IsWritten, reading_of};
 
@@ -68,7 +68,7 @@ pub fn path_filter<S: TreeSource>(
         filter.items) }
     ensures refused { IfErr result (λ refusal. (refusal ≢ TooMany)
         × ((world : World) → S.says source.new world
-        → IsChangesRefusal (S.has_refused source.new) settings.most bounds.names bounds.trees world
+        → IsChangeRefusal (S.has_refused source.new) settings.most bounds.names bounds.trees world
         (option_map oid_bytes old.entry) (Some (oid_bytes new.entry)) refusal)) }
 {
     let limits = Limits {

@@ -1,6 +1,6 @@
 //! The filters of commits, bit by bit.
 
-use crate::fixtures::{bytes_of, item_id, put_large, small_trees};
+use crate::fixtures::{bytes_of, id_of, put_large, small_trees};
 use crate::tables::{EMPTY, FILTERS, FilterRow, LARGE, LargeRow, MERGES, UNSIGNED};
 use changed_paths::filters::HashVersion;
 use gix_hash_core::{Kind, oid};
@@ -53,10 +53,10 @@ fn compare_rows(rt: &impl Abort, alloc: Global, version: HashVersion, rows: &[Fi
     for kind in [Kind::Sha1, Kind::Sha256] {
         let mut source = small_trees(rt, alloc, kind);
         for (old, new, digits) in rows {
-            let new = item_id(rt, kind, *new);
+            let new = id_of(rt, kind, *new);
             let found = match old {
                 Some(old) => {
-                    let old = item_id(rt, kind, *old);
+                    let old = id_of(rt, kind, *old);
                     let old = Some(old.as_oid());
                     filter(alloc, &mut source, old, new.as_oid(), version)
                 }
@@ -84,7 +84,7 @@ fn bytes_past_ascii_are_unsigned_in_version_2(rt: HostRuntime) {
 fn compare_large(rt: &impl Abort, alloc: Global, kind: Kind, row: &LargeRow) {
     let mut source = small_trees(rt, alloc, kind);
     let large = put_large(rt, alloc, &mut source, row);
-    let empty = item_id(rt, kind, EMPTY);
+    let empty = id_of(rt, kind, EMPTY);
     let (large, empty) = (large.as_oid(), empty.as_oid());
     for version in [HashVersion::One, HashVersion::Two] {
         let added = filter(alloc, &mut source, None, large, version);

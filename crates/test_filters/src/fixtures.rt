@@ -30,7 +30,7 @@ pub fn id_from(rt: &impl Abort, digits: &str) -> ObjectId {
 }
 
 /// The id of the tree with a number.
-pub fn item_id(rt: &impl Abort, kind: Kind, number: usize) -> ObjectId {
+pub fn id_of(rt: &impl Abort, kind: Kind, number: usize) -> ObjectId {
     let (sha1, sha256, _, _) = TREES.get(number).expect(rt, "a tree");
     id_from(rt, by_kind(kind, sha1, sha256))
 }

@@ -1,6 +1,6 @@
 //! What changes from one tree to another: the paths, and why they are not told.
 
-use crate::fixtures::{item_id, no_trees, push_entry, put, repeated, trees_without};
+use crate::fixtures::{id_of, no_trees, push_entry, put, repeated, trees_without};
 use crate::known::{KnownTrees, ReadError};
 use crate::tables::{
     BASE, BELOW, CHANGES, D_NEW, DEEP_NEW, EMPTY, FILES, FOLDED, MODE, NAMED, NESTED,
@@ -38,10 +38,10 @@ fn changed_rows(
     limits: Limits,
 ) -> Result<Vec<Vec<u8>>, Refusal<ReadError>> {
     let kind = source.kind;
-    let new = item_id(rt, kind, new);
+    let new = id_of(rt, kind, new);
     match old {
         Some(old) => {
-            let old = item_id(rt, kind, old);
+            let old = id_of(rt, kind, old);
             changed(alloc, source, Some(old.as_oid()), new.as_oid(), limits)
         }
         None => changed(alloc, source, None, new.as_oid(), limits),

@@ -1,6 +1,6 @@
 //! Entries of trees: their modes, their names and their ids; and bytes that are no tree.
 
-use crate::fixtures::{contents_of, item_id, named_id};
+use crate::fixtures::{contents_of, id_of, named_id};
 use crate::tables::{EntryRow, TREES};
 use gix_hash_core::{Kind, ObjectId, digest};
 use std::alloc::Global;
@@ -120,7 +120,7 @@ fn entries_are_those_that_git_shows(rt: HostRuntime) {
         for (number, row) in (0..99).zip(TREES) {
             let contents = contents_of(&rt, rt.alloc(), kind, row.2);
             let id = tree_id(&rt, rt.alloc(), kind, &contents);
-            assert!(&rt; id == item_id(&rt, kind, number));
+            assert!(&rt; id == id_of(&rt, kind, number));
             assert!(&rt; check_tree(kind, &contents) == Ok(()));
             compare_entries(&rt, kind, &contents, row.2);
         }

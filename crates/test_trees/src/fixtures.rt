@@ -8,7 +8,7 @@ use std::alloc::Global;
 use std::process::Abort;
 
 /// The id of the tree with a number.
-pub fn item_id(rt: &impl Abort, kind: Kind, number: usize) -> ObjectId {
+pub fn id_of(rt: &impl Abort, kind: Kind, number: usize) -> ObjectId {
     let (sha1, sha256, _) = TREES.get(number).expect(rt, "a tree");
     let text = match kind {
         Kind::Sha1 => sha1,
@@ -28,7 +28,7 @@ pub fn repeated(kind: Kind, byte: u8) -> ObjectId {
 /// The id of what an entry names.
 pub fn named_id(rt: &impl Abort, kind: Kind, named: Named) -> ObjectId {
     match named {
-        Named::Tree(number) => item_id(rt, kind, number),
+        Named::Tree(number) => id_of(rt, kind, number),
         Named::Other(byte) => repeated(kind, byte),
     }
 }
@@ -80,7 +80,7 @@ pub fn trees_without(rt: &impl Abort, alloc: Global, kind: Kind, left_out: usize
     for (number, row) in (0..99).zip(TREES) {
         if number != left_out {
             let contents = contents_of(rt, alloc, kind, row.2);
-            put(rt, alloc, &mut source, &item_id(rt, kind, number), contents);
+            put(rt, alloc, &mut source, &id_of(rt, kind, number), contents);
         }
     }
     source

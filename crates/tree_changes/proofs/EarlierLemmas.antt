@@ -10,8 +10,8 @@ use Rattle.std.specs.FinMap.{nat_cmp-IsAntisymmetric}
 use Rattle.std.proofs.lemmas.List.Elements.{All-nil, All-cons, All-head, All-tail, All-contains, Contains-append_left}
 use Rattle.std.proofs.lemmas.List.Elements.{Contains-append_right, Contains-push}
 use Rattle.gix_hash_core.specs.declared.kind.Kind.{Kind}
-use Rattle.tree_objects.specs.Trees.{EntryView, AreEntriesAnd, IsName, key_of}
-use Rattle.tree_changes.specs.Stands.{World, Item, item_of, item_named, item_at, item_id, entries_of, is_subtree, is_named}
+use Rattle.tree_objects.specs.Tree.{TreeEntry, AreEntriesAnd, IsName, key_of}
+use Rattle.tree_changes.specs.Stands.{World, Item, item_of, item_named, item_at, item_id, entries_of, is_directory, is_named}
 use Rattle.tree_changes.specs.Stands.{slashed}
 use Rattle.tree_changes.specs.Walk.{Change, IsChange, IsHere, IsEarlier, change_key, end_if}
 use Rattle.tree_changes.proofs.SideLemmas.{key_is, named_true}
@@ -51,12 +51,12 @@ directory_before (a ∷ n) (b ∷ m) k x y f g h =
     (directory_before n m k x y (All-tail (λ b. b ≢ 47) a n f) (All-tail (λ b. b ≢ 47) b m g)) h
 
 -- what begins with a key comes before what begins with one behind it
-key_before : (name : List ℕ) (d : Bool) (e : EntryView) (x y : List ℕ) → IsName name → IsName e.name → (d ≡ false → x ≡ [])
+key_before : (name : List ℕ) (d : Bool) (e : TreeEntry) (x y : List ℕ) → IsName name → IsName e.name → (d ≡ false → x ≡ [])
     → slice_cmp nat_cmp (name ++ end_if d) (key_of e) ≡ Less
     → slice_cmp nat_cmp ((name ++ end_if d) ++ x) (key_of e ++ y) ≡ Less
 key_before name true e x y h k none before =
     subst (λ t. slice_cmp nat_cmp ((name ++ 47 ∷ []) ++ x) (t ++ y) ≡ Less) (sym (key_is e))
-    (directory_before name e.name (is_subtree e.kind) x y h.2 k.2
+    (directory_before name e.name (is_directory e.kind) x y h.2 k.2
     (subst (λ t. slice_cmp nat_cmp (name ++ 47 ∷ []) t ≡ Less) (key_is e) before))
 key_before name false e x y h k none before =
     subst (λ t. slice_cmp nat_cmp t (key_of e ++ y) ≡ Less)
@@ -64,19 +64,19 @@ key_before name false e x y h k none before =
     (leaf_before (name ++ []) (key_of e) y before)
 
 -- A text begins with the key of one of these entries.
-pub record HasKey (entries : List EntryView) (key : List ℕ) : Type 0 where
-  pub entry : EntryView
+pub record HasKey (entries : List TreeEntry) (key : List ℕ) : Type 0 where
+  pub entry : TreeEntry
   pub among : Contains entries entry
   pub rest : List ℕ
   pub whole : key ≡ key_of entry ++ rest
 
-first_has : (e : EntryView) (entries : List EntryView) → Contains (e ∷ entries) e
+first_has : (e : TreeEntry) (entries : List TreeEntry) → Contains (e ∷ entries) e
 first_has e entries = Contains-append_left (e ∷ []) entries e (Contains-push [] e)
 
-later_has : (a : EntryView) (entries : List EntryView) (e : EntryView) → Contains entries e → Contains (a ∷ entries) e
+later_has : (a : TreeEntry) (entries : List TreeEntry) (e : TreeEntry) → Contains entries e → Contains (a ∷ entries) e
 later_has a entries e h = Contains-append_right (a ∷ []) entries e h
 
-key_later : (a : EntryView) (entries : List EntryView) (key : List ℕ) → HasKey entries key → HasKey (a ∷ entries) key
+key_later : (a : TreeEntry) (entries : List TreeEntry) (key : List ℕ) → HasKey entries key → HasKey (a ∷ entries) key
 key_later a entries key h = record {
   entry = h.entry;
   among = later_has a entries h.entry h.among;
@@ -88,7 +88,7 @@ cond_some : (t : Bool) (a b : Option Item) (x : Item) → t ≡ false → cond t
 cond_some true a b x e h = cc
 cond_some false a b x e h = h
 
-named_key : (d : Bool) (n : List ℕ) (entries : List EntryView) (x : Item) → item_named d n entries ≡ Some x
+named_key : (d : Bool) (n : List ℕ) (entries : List TreeEntry) (x : Item) → item_named d n entries ≡ Some x
     → HasKey entries (n ++ end_if d)
 named_key d n [] x h = cc
 named_key d n (e ∷ entries) x h =
@@ -100,7 +100,7 @@ named_key d n (e ∷ entries) x h =
             among = first_has e entries;
             rest = [];
             whole =
-                sym (append-nil (key_of e) ∙ key_is e ∙ ap (λ k. k ++ end_if (is_subtree e.kind)) is.1
+                sym (append-nil (key_of e) ∙ key_is e ∙ ap (λ k. k ++ end_if (is_directory e.kind)) is.1
                 ∙ ap (λ k. n ++ end_if k) is.0);
           }
       | false ↦ λ t.
@@ -115,7 +115,7 @@ nothing_below world d (m ∷ ds) n = nothing_below world d ds n
 regroup : (a b c d : List ℕ) → ((a ++ b) ++ c) ++ d ≡ a ++ (b ++ (c ++ d))
 regroup a b c d = simp append_assoc
 
-pub at_key : (world : World) (d : Bool) (entries : List EntryView) (ds : List (List ℕ)) (n : List ℕ) (x : Item)
+pub at_key : (world : World) (d : Bool) (entries : List TreeEntry) (ds : List (List ℕ)) (n : List ℕ) (x : Item)
     → item_at world d entries ds n ≡ Some x → HasKey entries (slashed ds ++ (n ++ end_if d))
 at_key world d entries [] n x h = named_key d n entries x h
 at_key world d entries (m ∷ ds) n x h =
@@ -144,7 +144,7 @@ record HereKey (name : List ℕ) (directory : Bool) (key : List ℕ) : Type 0 wh
   none : directory ≡ false → rest ≡ []
   whole : key ≡ (name ++ end_if directory) ++ rest
 
-here_key : (world : World) (old new : Option EntryView) (name : List ℕ) (directory : Bool) (c : Change)
+here_key : (world : World) (old new : Option TreeEntry) (name : List ℕ) (directory : Bool) (c : Change)
     → IsHere world old new name directory c → HereKey name directory (change_key c)
 here_key world old new name directory c (inl h) = record {
   rest = [];
@@ -162,14 +162,14 @@ here_key world old new name directory c (inr h) = record {
       ∙ ap (λ t. (name ++ end_if t) ++ (slashed h.rest ++ (c.name ++ end_if c.directory))) (sym h.directory_is);
 }
 
-pub names_all : (kind : Kind) (bytes : List ℕ) (entries : List EntryView) → AreEntriesAnd kind bytes entries []
+pub names_all : (kind : Kind) (bytes : List ℕ) (entries : List TreeEntry) → AreEntriesAnd kind bytes entries []
     → All (λ e. IsName e.name) entries
 names_all kind bytes [] are = All-nil (λ e. IsName e.name)
 names_all kind bytes (e ∷ entries) are =
     All-cons (λ e. IsName e.name) e entries are.1.named (names_all kind are.0 entries are.2)
 
 module _ (name : List ℕ) (directory : Bool) (named : IsName name) where
-  behind_has : (entries : List EntryView) (a b : List ℕ)
+  behind_has : (entries : List TreeEntry) (a b : List ℕ)
       → All (λ e. slice_cmp nat_cmp (name ++ end_if directory) (key_of e) ≡ Less) entries → All (λ e. IsName e.name) entries
       → HereKey name directory a → HasKey entries b → slice_cmp nat_cmp a b ≡ Less
   behind_has entries a b behind names h k =
@@ -179,7 +179,7 @@ module _ (name : List ℕ) (directory : Bool) (named : IsName name) where
       (All-contains (λ e. IsName e.name) entries k.entry names k.among) h.none
       (All-contains (λ e. slice_cmp nat_cmp (name ++ end_if directory) (key_of e) ≡ Less) entries k.entry behind k.among)))
 
-  pub here_before : (world : World) (old new : Option EntryView) (olds news : List EntryView)
+  pub here_before : (world : World) (old new : Option TreeEntry) (olds news : List TreeEntry)
       → All (λ e. slice_cmp nat_cmp (name ++ end_if directory) (key_of e) ≡ Less) olds → All (λ e. IsName e.name) olds
       → All (λ e. slice_cmp nat_cmp (name ++ end_if directory) (key_of e) ≡ Less) news → All (λ e. IsName e.name) news
       → (c d : Change) → IsHere world old new name directory c → IsChange world olds news d → IsEarlier c d

@@ -9,8 +9,8 @@ use Rattle.std.proofs.lemmas.List.Elements.{All-nil, All-cons, All-head, All-tai
 use Rattle.std.proofs.lemmas.List.Elements.{Contains-append_right, Contains-append_left, Contains-push}
 use Rattle.tree_changes.specs.Stands.{World, entries_of, slashed, stands}
 use Rattle.gix_hash_core.specs.declared.kind.Kind.{Kind}
-use Rattle.tree_changes.specs.Changes.{AreRisingTexts, IsChangedText, AreChanged, AreMore, IsChangesRefusal}
-use Rattle.tree_changes.specs.WaySteps.{IsFoundThen, IsStopped}
+use Rattle.tree_changes.specs.Changes.{AreRisingTexts, IsChangedText, AreChanged, AreMore, IsChangeRefusal}
+use Rattle.tree_changes.specs.Reads.{IsFoundThen, IsStopped}
 use Rattle.tree_changes.specs.declared.trees.Level.{Level}
 use Rattle.tree_changes.specs.declared.changes.Refusal.{Refusal}
 use Rattle.tree_changes.specs.declared.changes.Refusal.TheVariants.{TooMany, TooDeep, TooMuch, Source, OutOfMemory}
@@ -160,7 +160,7 @@ too_many kind says old new budget found more path levels trees texts most h e sa
 
 pub stopped : {E : Type 0} (refused : List ℕ → E → Type 0) (paths names trees : ℕ) (world : World) (old new : Option (List ℕ))
     (refusal : Refusal E) → IsStopped refused names trees world old new refusal
-    → IsChangesRefusal refused paths names trees world old new refusal
+    → IsChangeRefusal refused paths names trees world old new refusal
 stopped refused paths names trees world old new TooMany h = absurd h
 stopped refused paths names trees world old new TooDeep h = h
 stopped refused paths names trees world old new TooMuch h = h

@@ -10,7 +10,7 @@ use Rattle.tree_changes.specs.Stands.{World, stands}
 use Rattle.tree_changes.specs.Changes.{AreFirstChanged}
 use Rattle.tree_changes.specs.Walk.{Change, IsEarlier, change_key, leaf_texts, HasNames, IsLeft, IsFoundIn, IsFoundSoFar}
 use Rattle.tree_changes.specs.Walk.{Pending}
-use Rattle.tree_changes.specs.WaySteps.{IsFoundThen}
+use Rattle.tree_changes.specs.Reads.{IsFoundThen}
 use Rattle.tree_changes.specs.InTurn.{HasFound, GoesOn, last_found}
 use Rattle.tree_changes.specs.declared.walk.Walk.{Walk}
 use Rattle.tree_changes.specs.declared.in_turn.ChangesInTurn.{ChangesInTurn}

@@ -8,12 +8,12 @@ use Rattle.std.proofs.lemmas.List.Elements.{All-nil, All-push, All-weaker}
 use Rattle.std.proofs.lemmas.List.Sums.{sum_by_push}
 use Rattle.std.proofs.lemmas.Grind.{flat_map-append}
 use Rattle.gix_hash_core.specs.declared.kind.Kind.{Kind}
-use Rattle.tree_objects.specs.Trees.{EntryView, AreEntriesAnd, IsName}
+use Rattle.tree_objects.specs.Tree.{TreeEntry, AreEntriesAnd, IsName}
 use Rattle.tree_changes.specs.Stands.{World, item_of, item_id, entries_of, slashed}
 use Rattle.tree_changes.specs.Changes.{one_if_some}
 use Rattle.tree_changes.specs.Walk.{Change, IsChange, IsNext, Pending, IsLeft, IsLevel, AreLevels, IsFoundIn, IsFoundSoFar}
 use Rattle.tree_changes.specs.Walk.{HasNames, trees_of, under, IsEarlier, AreRisingChanges}
-use Rattle.tree_changes.specs.WaySteps.{IsReadLevel}
+use Rattle.tree_changes.specs.Reads.{IsReadLevel}
 use Rattle.tree_changes.specs.declared.trees.Level.{Level}
 use Rattle.tree_changes.proofs.WorldLemmas.{pass_level, leaf_found, tree_found, change_at, here_left, rising_push}
 
@@ -121,7 +121,7 @@ module _ (kind : Kind) (says : World → Type 0) (old new : Option (List ℕ)) (
     agreed = λ world w. pass_level world old new found top.p top.ps (by_level world w) (none world);
   }
 
-  module _ (a b : Option EntryView) (old_rest new_rest name : List ℕ) (directory : Bool)
+  module _ (a b : Option TreeEntry) (old_rest new_rest name : List ℕ) (directory : Bool)
       (next : IsNext kind top.p.olds top.p.news a b old_rest new_rest name directory) where
     abbrev pub here : Change
     here = change_at top.p.directories a b name directory
@@ -179,8 +179,7 @@ module _ (kind : Kind) (says : World → Type 0) (old new : Option (List ℕ)) (
           (read : IsReadLevel kind says' (item_id (option_map item_of a)) (item_id (option_map item_of b))
           (length (take level.prefix path ++ more)) below_level)
           (more_is : more ≡ name ++ 47 ∷ [])
-          (fewer : trees' + one_if_some (item_id (option_map item_of a)) + one_if_some (item_id (option_map item_of b))
-          ≡ trees) where
+          (fewer : trees' + one_if_some (item_id (option_map item_of a)) + one_if_some (item_id (option_map item_of b)) ≡ trees) where
         abbrev below : Pending
         below = record { directories = top.p.directories ++ name ∷ []; olds = read.old_tree.0; news = read.new_tree.0 }
 
@@ -206,7 +205,7 @@ module _ (kind : Kind) (says : World → Type 0) (old new : Option (List ℕ)) (
           named = All-push IsName top.p.directories name top.level_is.named next.named;
         }
 
-        one_item : (e : Option EntryView) → one_if_some (item_id (option_map item_of e)) ≡ one_if_some (option_map item_of e)
+        one_item : (e : Option TreeEntry) → one_if_some (item_id (option_map item_of e)) ≡ one_if_some (option_map item_of e)
         one_item None = refl
         one_item (Some e) = refl
 
@@ -277,14 +276,14 @@ begun kind says old new budget level trees read spent =
         all = λ c change. inr (inl (
           c.directories,
           refl,
-          (let P : List EntryView → Type 0 = λ t. IsChange world t (entries_of world new) c in
-              let Q : List EntryView → Type 0 = λ t. IsChange world read.old_tree.0 t c in
+          (let P : List TreeEntry → Type 0 = λ t. IsChange world t (entries_of world new) c in
+              let Q : List TreeEntry → Type 0 = λ t. IsChange world read.old_tree.0 t c in
               subst Q (read.new_tree.2 world w) (subst P (read.old_tree.2 world w) change)),
         ));
         none_else = λ c l. elim l [
           | inl x ↦
-              let P : List EntryView → Type 0 = λ t. IsChange world t (entries_of world new) c in
-              let Q : List EntryView → Type 0 = λ t. IsChange world read.old_tree.0 t c in
+              let P : List TreeEntry → Type 0 = λ t. IsChange world t (entries_of world new) c in
+              let Q : List TreeEntry → Type 0 = λ t. IsChange world read.old_tree.0 t c in
               let R : List (List ℕ) → Type 0 = λ t. IsChange world read.old_tree.0 read.new_tree.0 (under t c) in
               subst P (sym (read.old_tree.2 world w)) (subst Q (sym (read.new_tree.2 world w)) (subst R (sym x.1) x.2))
           | inr y ↦ absurd y

@@ -2,8 +2,8 @@
 use Rattle.std.proofs.Common.{◌≡◌, ◌≢◌, ℕ, Bool, List, [], Option, sym, ap, ◌∙◌, inl, inr}
 use Rattle.std.specs.Prelude.{option_map, ◌↔◌}
 use Rattle.gix_hash_core.specs.declared.kind.Kind.{Kind}
-use Rattle.tree_objects.specs.Trees.{EntryView, AreEntriesAnd}
-use Rattle.tree_objects.specs.Trees.{AreInOrder}
+use Rattle.tree_objects.specs.Tree.{TreeEntry, AreEntriesAnd}
+use Rattle.tree_objects.specs.Tree.{AreInOrder}
 use Rattle.tree_changes.specs.Stands.{World, item_of, item_at, item_id, entries_of}
 use Rattle.tree_changes.specs.Walk.{Change, IsChange, IsHere, IsNext}
 use Rattle.tree_changes.proofs.PairLemmas.{IsPairOf}
@@ -11,16 +11,16 @@ use Rattle.tree_changes.proofs.StepLemmas.{step_is}
 use Rattle.tree_changes.proofs.EarlierLemmas.{names_all, here_before}
 
 -- Entries were passed by that are alike: what differs is among those that are left.
-pub record IsPast (kind : Kind) (olds news : List EntryView) (old_bytes new_bytes : List ℕ) : Type 0 where
-  pub olds_rest : List EntryView
-  pub news_rest : List EntryView
+pub record IsPast (kind : Kind) (olds news : List TreeEntry) (old_bytes new_bytes : List ℕ) : Type 0 where
+  pub olds_rest : List TreeEntry
+  pub news_rest : List TreeEntry
   pub old_entries : AreEntriesAnd kind old_bytes olds_rest []
   pub new_entries : AreEntriesAnd kind new_bytes news_rest []
   pub old_order : AreInOrder olds_rest
   pub new_order : AreInOrder news_rest
   pub same : (world : World) (c : Change) → IsChange world olds news c ↔ IsChange world olds_rest news_rest c
 
-pub past_none : (kind : Kind) (old new : List ℕ) (olds news : List EntryView) → AreEntriesAnd kind old olds []
+pub past_none : (kind : Kind) (old new : List ℕ) (olds news : List TreeEntry) → AreEntriesAnd kind old olds []
     → AreEntriesAnd kind new news [] → AreInOrder olds → AreInOrder news → IsPast kind olds news old new
 past_none kind old new olds news a b r s = record {
   olds_rest = olds;
@@ -33,20 +33,20 @@ past_none kind old new olds news a b r s = record {
 }
 
 -- the pair at which two trees go on, by their entries
-abbrev pub PairsBy : Kind → List ℕ → List ℕ → Option EntryView → Option EntryView → List ℕ → List ℕ → List ℕ → Bool → Type 0
+abbrev pub PairsBy : Kind → List ℕ → List ℕ → Option TreeEntry → Option TreeEntry → List ℕ → List ℕ → List ℕ → Bool → Type 0
 PairsBy kind old new a b old' new' name directory =
-    (olds news : List EntryView) → AreEntriesAnd kind old olds [] → AreEntriesAnd kind new news [] → AreInOrder olds
+    (olds news : List TreeEntry) → AreEntriesAnd kind old olds [] → AreEntriesAnd kind new news [] → AreInOrder olds
     → AreInOrder news → IsPairOf kind olds news a b old' new' name directory
 
-here_alike : (world : World) (old new : Option EntryView) (name : List ℕ) (directory : Bool) (c : Change)
+here_alike : (world : World) (old new : Option TreeEntry) (name : List ℕ) (directory : Bool) (c : Change)
     → option_map item_of old ≡ option_map item_of new → IsHere world old new name directory c → ⊥
 here_alike world old new name directory c alike (inl h) = h.differs (sym h.old_is ∙ alike ∙ h.new_is)
 here_alike world old new name directory c alike (inr h) =
     h.change.2 (sym h.change.0 ∙ ap (λ i. item_at world c.directory (entries_of world (item_id i)) h.rest c.name) alike
     ∙ h.change.1)
 
-module _ (kind : Kind) (olds news : List EntryView) (old new : List ℕ) (p : IsPast kind olds news old new) where
-  pub past_more : (a b : Option EntryView) (old' new' name : List ℕ) (directory : Bool)
+module _ (kind : Kind) (olds news : List TreeEntry) (old new : List ℕ) (p : IsPast kind olds news old new) where
+  pub past_more : (a b : Option TreeEntry) (old' new' name : List ℕ) (directory : Bool)
       → PairsBy kind old new a b old' new' name directory → option_map item_of a ≡ option_map item_of b
       → IsPast kind olds news old' new'
   past_more a b old' new' name directory pairs alike =
@@ -70,7 +70,7 @@ module _ (kind : Kind) (olds news : List EntryView) (old new : List ℕ) (p : Is
             );
       }
 
-  pub next_is : (a b : Option EntryView) (old' new' name : List ℕ) (directory : Bool)
+  pub next_is : (a b : Option TreeEntry) (old' new' name : List ℕ) (directory : Bool)
       → PairsBy kind old new a b old' new' name directory → option_map item_of a ≢ option_map item_of b
       → IsNext kind olds news a b old' new' name directory
   next_is a b old' new' name directory pairs differ =
@@ -94,11 +94,11 @@ module _ (kind : Kind) (olds news : List EntryView) (old new : List ℕ) (p : Is
             (names_all kind new' y.rest y.entries_are) c d here rest;
       }
 
-  nothing_differs : (world : World) (c : Change) (xs ys : List EntryView) → xs ≡ [] → ys ≡ [] → IsChange world xs ys c → ⊥
+  nothing_differs : (world : World) (c : Change) (xs ys : List TreeEntry) → xs ≡ [] → ys ≡ [] → IsChange world xs ys c → ⊥
   nothing_differs world c xs ys e f h =
       h.2 (sym h.0 ∙ ap (λ t. item_at world c.directory t c.directories c.name) (e ∙ sym f) ∙ h.1)
 
-  pub past_all : ((xs ys : List EntryView) → AreEntriesAnd kind old xs [] → AreEntriesAnd kind new ys [] → AreInOrder xs
+  pub past_all : ((xs ys : List TreeEntry) → AreEntriesAnd kind old xs [] → AreEntriesAnd kind new ys [] → AreInOrder xs
       → AreInOrder ys → (xs ≡ []) × (ys ≡ []))
       → (world : World) (c : Change) → IsChange world olds news c → ⊥
   past_all ended world c h =

@@ -6,12 +6,12 @@ use Rattle.std.proofs.lemmas.List.Elements.{All-push}
 use Rattle.std.proofs.lemmas.List.Sums.{sum_by_push}
 use Rattle.std.proofs.lemmas.List.{take_all}
 use Rattle.gix_hash_core.specs.declared.kind.Kind.{Kind}
-use Rattle.tree_objects.specs.Trees.{EntryView, AreEntriesAnd}
-use Rattle.tree_objects.specs.Trees.{AreInOrder}
+use Rattle.tree_objects.specs.Tree.{TreeEntry, AreEntriesAnd}
+use Rattle.tree_objects.specs.Tree.{AreInOrder}
 use Rattle.tree_changes.specs.Stands.{World, Item, item_of, item_id, entries_of, slashed}
 use Rattle.tree_changes.specs.Changes.{one_if_some, IsDeeper}
 use Rattle.tree_changes.specs.Walk.{Change, IsChange, IsNext, IsEnd, Pending, IsFoundSoFar, leaf_texts, trees_of}
-use Rattle.tree_changes.specs.WaySteps.{IsReadLevel, IsFoundThen, IsStopped, IsReadRefusal}
+use Rattle.tree_changes.specs.Reads.{IsReadLevel, IsFoundThen, IsStopped, IsReadRefusal}
 use Rattle.tree_changes.specs.declared.trees.Level.{Level}
 use Rattle.tree_changes.specs.declared.changes.Refusal.{Refusal}
 use Rattle.tree_changes.specs.declared.changes.Refusal.TheVariants.{TooMany, TooDeep, TooMuch, Source, OutOfMemory}
@@ -60,14 +60,14 @@ left_is items items' bytes rest at at' n same e at_is is h =
     ∙ end_at items rest (whole_end items bytes rest at e h)
 
 -- what the next difference is of trees
-abbrev pub NextBy : List ℕ → List ℕ → Option EntryView → Option EntryView → List ℕ → List ℕ → List ℕ → Bool → Kind → Type 0
+abbrev pub NextBy : List ℕ → List ℕ → Option TreeEntry → Option TreeEntry → List ℕ → List ℕ → List ℕ → Bool → Kind → Type 0
 NextBy old_bytes new_bytes a b old' new' name directory kind =
-    (olds news : List EntryView) → AreEntriesAnd kind old_bytes olds [] → AreEntriesAnd kind new_bytes news [] → AreInOrder olds
+    (olds news : List TreeEntry) → AreEntriesAnd kind old_bytes olds [] → AreEntriesAnd kind new_bytes news [] → AreInOrder olds
     → AreInOrder news → IsNext kind olds news a b old' new' name directory
 
 abbrev pub NoneBy : List ℕ → List ℕ → Kind → Type 0
 NoneBy old_bytes new_bytes kind =
-    (olds news : List EntryView) → AreEntriesAnd kind old_bytes olds [] → AreEntriesAnd kind new_bytes news [] → AreInOrder olds
+    (olds news : List TreeEntry) → AreEntriesAnd kind old_bytes olds [] → AreEntriesAnd kind new_bytes news [] → AreInOrder olds
     → AreInOrder news → (world : World) (c : Change) → IsChange world olds news c → ⊥
 
 module _ (kind kind' : Kind) (same_kind : kind' ≡ kind) (says : World → Type 0) (old new : Option (List ℕ)) (budget : ℕ)
@@ -91,7 +91,7 @@ module _ (kind kind' : Kind) (same_kind : kind' ≡ kind) (says : World → Type
         texts = h.texts;
       }
 
-  module _ (a b : Option EntryView) (old_rest new_rest name : List ℕ) (directory : Bool)
+  module _ (a b : Option TreeEntry) (old_rest new_rest name : List ℕ) (directory : Bool)
       (by : NextBy old_bytes new_bytes a b old_rest new_rest name directory kind') where
     abbrev pub next_top : Pending
     next_top = (top kind says old new budget h.found_then path levels front level trees h.so_far popped).p
@@ -138,7 +138,7 @@ module _ (kind kind' : Kind) (same_kind : kind' ≡ kind) (says : World → Type
         rises
         (omega (arith, h.so_far.spent, r, sum_by_push trees_of h.found_then here, both, one_item a, one_item b))
       where
-        one_item : (e : Option EntryView) → one_if_some (item_id (option_map item_of e)) ≡ one_if_some (option_map item_of e)
+        one_item : (e : Option TreeEntry) → one_if_some (item_id (option_map item_of e)) ≡ one_if_some (option_map item_of e)
         one_item None = refl
         one_item (Some e) = refl
     not_read refused names (Source error) e r world w =
@@ -183,8 +183,7 @@ module _ (kind kind' : Kind) (same_kind : kind' ≡ kind) (says : World → Type
       tree_on says' less trees' below path' levels' n e path_is n_is levels_are read fewer =
           let whole : path' ≡ take level.prefix path ++ (name ++ 47 ∷ []) = path_is
           ∙ append_assoc (take level.prefix path) name (47 ∷ []) in
-          let read' = subst
-          (λ x. IsReadLevel kind says' (item_id (option_map item_of a)) (item_id (option_map item_of b)) x below)
+          let read' = subst (λ x. IsReadLevel kind says' (item_id (option_map item_of a)) (item_id (option_map item_of b)) x below)
           (n_is ∙ ap length whole) read in
           record {
             found_then = h.found_then ++ here ∷ [];

@@ -9,14 +9,14 @@ use Rattle.std.proofs.lemmas.Cmp.{nat_list_cmp_total}
 use Rattle.std.proofs.lemmas.List.Elements.{All-nil}
 use Rattle.std.specs.FinMap.{slice_cmp-IsAntisymmetric, nat_cmp-IsAntisymmetric}
 use Rattle.gix_hash_core.specs.declared.kind.Kind.{Kind}
-use Rattle.tree_objects.specs.Trees.{EntryView, BeginsWithEntry, AreEntriesAnd, StandsBefore, IsName, key_of}
-use Rattle.tree_objects.specs.Trees.{AreInOrder}
+use Rattle.tree_objects.specs.Tree.{TreeEntry, BeginsWithEntry, AreEntriesAnd, StandsBefore, IsName, key_of}
+use Rattle.tree_objects.specs.Tree.{AreInOrder}
 use Rattle.tree_objects.proofs.SplitLemmas.{opened, closed, first_is_one, no_byte}
-use Rattle.tree_changes.specs.Stands.{is_subtree}
+use Rattle.tree_changes.specs.Stands.{is_directory}
 use Rattle.tree_changes.specs.Walk.{IsSide, end_if}
 use Rattle.tree_changes.proofs.SideLemmas.{before_first, side_first, side_none, key_is}
 
-abbrev pub IsPairOf : Kind → List EntryView → List EntryView → Option EntryView → Option EntryView → List ℕ → List ℕ → List ℕ
+abbrev pub IsPairOf : Kind → List TreeEntry → List TreeEntry → Option TreeEntry → Option TreeEntry → List ℕ → List ℕ → List ℕ
     → Bool → Type 0
 IsPairOf kind olds news old new old_bytes new_bytes name directory =
     IsSide kind olds old old_bytes name directory × IsSide kind news new new_bytes name directory × IsName name
@@ -33,15 +33,15 @@ after_is_before : (x y : List ℕ) → slice_cmp nat_cmp x y ≡ Greater → sli
 after_is_before x y h = let back = nat_list_cmp_total.antisymm y x in rw h at back
 
 abbrev pub HasNone : Kind → List ℕ → Type 0
-HasNone kind bytes = (e : EntryView) (next : List ℕ) → BeginsWithEntry kind bytes e next → ⊥
+HasNone kind bytes = (e : TreeEntry) (next : List ℕ) → BeginsWithEntry kind bytes e next → ⊥
 
 module _ (kind : Kind) (old new : List ℕ) where
-  pub arm_none : HasNone kind old → HasNone kind new → (olds news : List EntryView) → AreEntriesAnd kind old olds []
+  pub arm_none : HasNone kind old → HasNone kind new → (olds news : List TreeEntry) → AreEntriesAnd kind old olds []
       → AreEntriesAnd kind new news [] → AreInOrder olds → AreInOrder news → (olds ≡ []) × (news ≡ [])
   arm_none h k olds news a b r s = (closed kind old olds a h, closed kind new news b k)
 
-  pub arm_old : (a : EntryView) (next : List ℕ) (d : Bool) → BeginsWithEntry kind old a next → HasNone kind new
-      → d ≡ is_subtree a.kind → (olds news : List EntryView) → AreEntriesAnd kind old olds [] → AreEntriesAnd kind new news []
+  pub arm_old : (a : TreeEntry) (next : List ℕ) (d : Bool) → BeginsWithEntry kind old a next → HasNone kind new
+      → d ≡ is_directory a.kind → (olds news : List TreeEntry) → AreEntriesAnd kind old olds [] → AreEntriesAnd kind new news []
       → AreInOrder olds → AreInOrder news → IsPairOf kind olds news (Some a) None next new a.name d
   arm_old a next d h k e olds news are are' r s =
       let cut = opened kind old olds a next are h in
@@ -52,8 +52,8 @@ module _ (kind : Kind) (old new : List ℕ) where
         h.named,
       )
 
-  pub arm_new : (b : EntryView) (next : List ℕ) (d : Bool) → HasNone kind old → BeginsWithEntry kind new b next
-      → d ≡ is_subtree b.kind → (olds news : List EntryView) → AreEntriesAnd kind old olds [] → AreEntriesAnd kind new news []
+  pub arm_new : (b : TreeEntry) (next : List ℕ) (d : Bool) → HasNone kind old → BeginsWithEntry kind new b next
+      → d ≡ is_directory b.kind → (olds news : List TreeEntry) → AreEntriesAnd kind old olds [] → AreEntriesAnd kind new news []
       → AreInOrder olds → AreInOrder news → IsPairOf kind olds news None (Some b) old next b.name d
   arm_new b next d k h e olds news are are' r s =
       let cut = opened kind new news b next are' h in
@@ -64,9 +64,9 @@ module _ (kind : Kind) (old new : List ℕ) where
         h.named,
       )
 
-  module _ (a b : EntryView) (next next' : List ℕ) (d : Bool) (h : BeginsWithEntry kind old a next)
+  module _ (a b : TreeEntry) (next next' : List ℕ) (d : Bool) (h : BeginsWithEntry kind old a next)
       (k : BeginsWithEntry kind new b next') where
-    pub arm_less : StandsBefore a b → d ≡ is_subtree a.kind → (olds news : List EntryView) → AreEntriesAnd kind old olds []
+    pub arm_less : StandsBefore a b → d ≡ is_directory a.kind → (olds news : List TreeEntry) → AreEntriesAnd kind old olds []
         → AreEntriesAnd kind new news [] → AreInOrder olds → AreInOrder news
         → IsPairOf kind olds news (Some a) None next new a.name d
     arm_less before e olds news are are' r s =
@@ -79,7 +79,7 @@ module _ (kind : Kind) (old new : List ℕ) where
           h.named,
         )
 
-    pub arm_greater : slice_cmp nat_cmp (key_of a) (key_of b) ≡ Greater → d ≡ is_subtree b.kind → (olds news : List EntryView)
+    pub arm_greater : slice_cmp nat_cmp (key_of a) (key_of b) ≡ Greater → d ≡ is_directory b.kind → (olds news : List TreeEntry)
         → AreEntriesAnd kind old olds [] → AreEntriesAnd kind new news [] → AreInOrder olds → AreInOrder news
         → IsPairOf kind olds news None (Some b) old next' b.name d
     arm_greater after e olds news are are' r s =
@@ -92,19 +92,19 @@ module _ (kind : Kind) (old new : List ℕ) where
           k.named,
         )
 
-    pub arm_equal : slice_cmp nat_cmp (key_of a) (key_of b) ≡ Equal → d ≡ is_subtree a.kind → (olds news : List EntryView)
+    pub arm_equal : slice_cmp nat_cmp (key_of a) (key_of b) ≡ Equal → d ≡ is_directory a.kind → (olds news : List TreeEntry)
         → AreEntriesAnd kind old olds [] → AreEntriesAnd kind new news [] → AreInOrder olds → AreInOrder news
         → IsPairOf kind olds news (Some a) (Some b) next next' a.name d
     arm_equal same e olds news are are' r s =
         let cut = opened kind old olds a next are h in
         let other = opened kind new news b next' are' k in
         let keys : key_of a ≡ key_of b = slice_cmp-IsAntisymmetric nat_cmp-IsAntisymmetric (key_of a) (key_of b) same in
-        let one = ends_apart a.name b.name (is_subtree a.kind) (is_subtree b.kind) h.named.2 k.named.2
+        let one = ends_apart a.name b.name (is_directory a.kind) (is_directory b.kind) h.named.2 k.named.2
         (sym (key_is a) ∙ keys ∙ key_is b) in
         let second = side_first kind news b other.0 next' other.1 other.2 s in
         subst (IsPairOf kind olds news (Some a) (Some b) next next' a.name) (sym e) (
           side_first kind olds a cut.0 next cut.1 cut.2 r,
-          subst (λ n. IsSide kind news (Some b) next' n (is_subtree a.kind)) one.0
+          subst (λ n. IsSide kind news (Some b) next' n (is_directory a.kind)) one.0
               (subst (λ k. IsSide kind news (Some b) next' b.name k) one.1 second),
           h.named,
         )

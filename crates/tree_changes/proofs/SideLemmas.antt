@@ -10,24 +10,24 @@ use Rattle.std.proofs.lemmas.List.Elements.{All-nil, All-cons, All-head, All-tai
 use Rattle.gix_hash_core.specs.declared.kind.Kind.{Kind}
 use Rattle.tree_objects.specs.declared.mode.EntryKind.{EntryKind}
 use Rattle.tree_objects.specs.declared.mode.EntryKind.TheVariants.{Directory, File, Executable, Link, Submodule}
-use Rattle.tree_objects.specs.Trees.{EntryView, AreEntriesAnd, StandsBefore, key_of, key_end}
-use Rattle.tree_objects.specs.Trees.{AreInOrder}
+use Rattle.tree_objects.specs.Tree.{TreeEntry, AreEntriesAnd, StandsBefore, key_of, key_end}
+use Rattle.tree_objects.specs.Tree.{AreInOrder}
 use Rattle.tree_objects.proofs.ReadLemmas.{rest_rising}
-use Rattle.tree_changes.specs.Stands.{is_subtree, is_named, item_of, item_named}
+use Rattle.tree_changes.specs.Stands.{is_directory, is_named, item_of, item_named}
 use Rattle.tree_changes.specs.Walk.{IsSide, end_if}
 
-pub end_by_kind : (kind : EntryKind) → key_end kind ≡ end_if (is_subtree kind)
+pub end_by_kind : (kind : EntryKind) → key_end kind ≡ end_if (is_directory kind)
 end_by_kind Directory = refl
 end_by_kind File = refl
 end_by_kind Executable = refl
 end_by_kind Link = refl
 end_by_kind Submodule = refl
 
-pub key_is : (a : EntryView) → key_of a ≡ a.name ++ end_if (is_subtree a.kind)
+pub key_is : (a : TreeEntry) → key_of a ≡ a.name ++ end_if (is_directory a.kind)
 unfolding key_of
 key_is a = ap (λ x. a.name ++ x) (end_by_kind a.kind)
 
-pub before_all : (a : EntryView) (entries : List EntryView) → AreInOrder (a ∷ entries) → All (StandsBefore a) entries
+pub before_all : (a : TreeEntry) (entries : List TreeEntry) → AreInOrder (a ∷ entries) → All (StandsBefore a) entries
 before_all a [] order = All-nil (StandsBefore a)
 before_all a (b ∷ entries) order =
     All-cons (StandsBefore a) b entries order.0
@@ -36,26 +36,26 @@ before_all a (b ∷ entries) order =
     (before_all b entries order.1))
 
 -- an entry before the first of entries in order is before all
-pub before_first : (a b : EntryView) (entries : List EntryView) → AreInOrder (b ∷ entries) → StandsBefore a b
+pub before_first : (a b : TreeEntry) (entries : List TreeEntry) → AreInOrder (b ∷ entries) → StandsBefore a b
     → All (StandsBefore a) (b ∷ entries)
 before_first a b entries order before =
     All-cons (StandsBefore a) b entries before
     (All-weaker (StandsBefore b) (StandsBefore a)
     (λ e h. nat_list_cmp_total.trans (key_of a) (key_of b) (key_of e) before h) entries (before_all b entries order))
 
-abbrev IsBehind : List ℕ → Bool → EntryView → Type 0
+abbrev IsBehind : List ℕ → Bool → TreeEntry → Type 0
 IsBehind name directory e = slice_cmp nat_cmp (name ++ end_if directory) (key_of e) ≡ Less
 
-behind_key : (a : EntryView) (entries : List EntryView) → All (StandsBefore a) entries
-    → All (IsBehind a.name (is_subtree a.kind)) entries
+behind_key : (a : TreeEntry) (entries : List TreeEntry) → All (StandsBefore a) entries
+    → All (IsBehind a.name (is_directory a.kind)) entries
 behind_key a entries all =
-    All-weaker (StandsBefore a) (IsBehind a.name (is_subtree a.kind))
+    All-weaker (StandsBefore a) (IsBehind a.name (is_directory a.kind))
     (λ e h. subst (λ k. slice_cmp nat_cmp k (key_of e) ≡ Less) (key_is a) h) entries all
 
 -- the side of the entry that a pair is of
-pub side_first : (kind : Kind) (entries : List EntryView) (a : EntryView) (more : List EntryView) (bytes : List ℕ)
+pub side_first : (kind : Kind) (entries : List TreeEntry) (a : TreeEntry) (more : List TreeEntry) (bytes : List ℕ)
     → entries ≡ a ∷ more → AreEntriesAnd kind bytes more [] → AreInOrder entries
-    → IsSide kind entries (Some a) bytes a.name (is_subtree a.kind)
+    → IsSide kind entries (Some a) bytes a.name (is_directory a.kind)
 side_first kind entries a more bytes e are order =
     let order' : AreInOrder (a ∷ more) = subst AreInOrder e order in
     record {
@@ -68,8 +68,8 @@ side_first kind entries a more bytes e are order =
     }
 
 -- a side without such an entry
-pub side_none : (kind : Kind) (entries : List EntryView) (a : EntryView) (bytes : List ℕ) → AreEntriesAnd kind bytes entries []
-    → AreInOrder entries → All (StandsBefore a) entries → IsSide kind entries None bytes a.name (is_subtree a.kind)
+pub side_none : (kind : Kind) (entries : List TreeEntry) (a : TreeEntry) (bytes : List ℕ) → AreEntriesAnd kind bytes entries []
+    → AreInOrder entries → All (StandsBefore a) entries → IsSide kind entries None bytes a.name (is_directory a.kind)
 side_none kind entries a bytes are order before = record {
   rest = entries;
   all = refl;
@@ -94,25 +94,25 @@ wanted : (d k : Bool) → cond d k (not k) ≡ true → k ≡ d
 wanted true k e = e
 wanted false k e = not_true k e
 
-pub named_true : (d : Bool) (name : List ℕ) (e : EntryView) → is_named d name e ≡ true
-    → (is_subtree e.kind ≡ d) × (e.name ≡ name)
+pub named_true : (d : Bool) (name : List ℕ) (e : TreeEntry) → is_named d name e ≡ true
+    → (is_directory e.kind ≡ d) × (e.name ≡ name)
 named_true d name e h =
-    let both = both_true (cond d (is_subtree e.kind) (not (is_subtree e.kind))) (pointwise nat_eq e.name name) h in
-    (wanted d (is_subtree e.kind) both.0, (bytes_decides e.name name).0 both.1)
+    let both = both_true (cond d (is_directory e.kind) (not (is_directory e.kind))) (pointwise nat_eq e.name name) h in
+    (wanted d (is_directory e.kind) both.0, (bytes_decides e.name name).0 both.1)
 
-not_named : (name : List ℕ) (d : Bool) (e : EntryView) → IsBehind name d e → is_named d name e ≡ false
+not_named : (name : List ℕ) (d : Bool) (e : TreeEntry) → IsBehind name d e → is_named d name e ≡ false
 not_named name d e behind =
     elim (is_named d name e) as (λ t. is_named d name e ≡ t → t ≡ false) [
       | true ↦ λ h. absurd (
           let is = named_true d name e h in
           let same : key_of e ≡ name ++ end_if d =
-          key_is e ∙ ap (λ n. n ++ end_if (is_subtree e.kind)) is.1 ∙ ap (λ k. name ++ end_if k) is.0 in
+          key_is e ∙ ap (λ n. n ++ end_if (is_directory e.kind)) is.1 ∙ ap (λ k. name ++ end_if k) is.0 in
           never_before_itself (name ++ end_if d) (subst (λ k. slice_cmp nat_cmp (name ++ end_if d) k ≡ Less) same behind))
       | false ↦ λ h. refl
     ] refl
 
 -- nothing behind a name is of it
-pub gone : (name : List ℕ) (d : Bool) (entries : List EntryView) → All (IsBehind name d) entries
+pub gone : (name : List ℕ) (d : Bool) (entries : List TreeEntry) → All (IsBehind name d) entries
     → item_named d name entries ≡ None
 gone name d [] all = refl
 gone name d (e ∷ entries) all =
@@ -140,7 +140,7 @@ asked_itself directory name d n e f =
     let right : pointwise nat_eq name n ≡ true = (bytes_decides name n).1 f in
     rw (left, right) refl
 
-none_asked : (directory : Bool) (name : List ℕ) (d : Bool) (n : List ℕ) (rest : List EntryView)
+none_asked : (directory : Bool) (name : List ℕ) (d : Bool) (n : List ℕ) (rest : List TreeEntry)
     → item_named directory name rest ≡ None
     → item_named d n rest ≡ cond (is_asked directory name d n) None (item_named d n rest)
 none_asked directory name d n rest gone' =
@@ -152,14 +152,14 @@ none_asked directory name d n rest gone' =
       | false ↦ λ h. refl
     ] refl
 
-module _ (kind : Kind) (entries : List EntryView) (bytes name : List ℕ) (directory : Bool) where
+module _ (kind : Kind) (entries : List TreeEntry) (bytes name : List ℕ) (directory : Bool) where
   -- what stands at a name on a side: that of the pair, where it is asked for, or else one of the others
-  pub side_item : (first : Option EntryView) (s : IsSide kind entries first bytes name directory) (d : Bool) (n : List ℕ)
+  pub side_item : (first : Option TreeEntry) (s : IsSide kind entries first bytes name directory) (d : Bool) (n : List ℕ)
       → item_named d n entries ≡ cond (is_asked directory name d n) (option_map item_of first) (item_named d n s.rest)
   side_item None s d n =
       ap (item_named d n) s.all ∙ none_asked directory name d n s.rest (gone name directory s.rest s.behind)
   side_item (Some e) s d n =
       ap (item_named d n) s.all
-      ∙ ap (λ (x : List ℕ). cond (cond d (is_subtree e.kind) (not (is_subtree e.kind)) && pointwise nat_eq x n) (Some
+      ∙ ap (λ (x : List ℕ). cond (cond d (is_directory e.kind) (not (is_directory e.kind)) && pointwise nat_eq x n) (Some
       (item_of e)) (item_named d n s.rest)) s.named.0
       ∙ ap (λ (x : Bool). cond (cond d x (not x) && pointwise nat_eq name n) (Some (item_of e)) (item_named d n s.rest)) s.named.1

@@ -3,7 +3,7 @@ use Rattle.std.proofs.Common.{◌≡◌, ℕ, Bool, true, false, cond, List, [],
 use Rattle.std.proofs.Common.{inr}
 use Rattle.std.specs.Prelude.{option_map, ◌↔◌}
 use Rattle.gix_hash_core.specs.declared.kind.Kind.{Kind}
-use Rattle.tree_objects.specs.Trees.{EntryView}
+use Rattle.tree_objects.specs.Tree.{TreeEntry}
 use Rattle.tree_changes.specs.Stands.{World, Item, item_of, item_named, item_at, item_id, entries_of}
 use Rattle.tree_changes.specs.Walk.{Change, IsChange, IsHere, IsSide, under}
 use Rattle.tree_changes.proofs.SideLemmas.{is_asked, asked_true, asked_itself, side_item, gone}
@@ -22,7 +22,7 @@ heads d name ds rest e = cc
 tails : (d name : List ℕ) (ds rest : List (List ℕ)) → d ∷ ds ≡ name ∷ rest → rest ≡ ds
 tails d name ds rest e = cc
 
-module _ (kind : Kind) (world : World) (entries : List EntryView) (first : Option EntryView) (bytes name : List ℕ)
+module _ (kind : Kind) (world : World) (entries : List TreeEntry) (first : Option TreeEntry) (bytes name : List ℕ)
     (directory : Bool) (s : IsSide kind entries first bytes name directory) where
   -- what stands at a name of one side, where the pair is of it
   top_here : (d : Bool) (n : List ℕ) → is_asked directory name d n ≡ true → item_named d n entries ≡ option_map item_of first
@@ -57,8 +57,8 @@ module _ (kind : Kind) (world : World) (entries : List EntryView) (first : Optio
       → item_at world d s.rest (m ∷ ds) n ≡ item_at world d [] ds n
   below_gone d m ds n t = ap (λ i. below i d ds n) (top_gone true m t)
 
-module _ (kind : Kind) (world : World) (olds : List EntryView) (old : Option EntryView) (old_bytes : List ℕ)
-    (news : List EntryView) (new : Option EntryView) (new_bytes name : List ℕ) (directory : Bool)
+module _ (kind : Kind) (world : World) (olds : List TreeEntry) (old : Option TreeEntry) (old_bytes : List ℕ)
+    (news : List TreeEntry) (new : Option TreeEntry) (new_bytes name : List ℕ) (directory : Bool)
     (a : IsSide kind olds old old_bytes name directory) (b : IsSide kind news new new_bytes name directory) where
   top_forth : (c : Change) (t : Bool) → is_asked directory name c.directory c.name ≡ t → IsChange world olds news (under [] c)
       → IsHere world old new name directory (under [] c) ⊎ IsChange world a.rest b.rest (under [] c)
@@ -128,8 +128,8 @@ module _ (kind : Kind) (world : World) (olds : List EntryView) (old : Option Ent
       let asked = asked_itself directory name true m h.directory_is (heads m name ds h.rest h.directories_are) in
       let change : IsChange world (entries_of world (item_id (option_map item_of old))) (entries_of world (item_id (option_map
       item_of new))) (under ds c) =
-      subst (λ x. IsChange world (entries_of world (item_id (option_map item_of old)))
-      (entries_of world (item_id (option_map item_of new))) (under x c)) (tails m name ds h.rest h.directories_are) h.change in (
+      subst (λ x. IsChange world (entries_of world (item_id (option_map item_of old))) (entries_of world (item_id (option_map item_of
+      new))) (under x c)) (tails m name ds h.rest h.directories_are) h.change in (
         below_here kind world olds old old_bytes name directory a c.directory m ds c.name asked ∙ change.0,
         below_here kind world news new new_bytes name directory b c.directory m ds c.name asked ∙ change.1,
         change.2,

@@ -10,8 +10,8 @@ use Rattle.std.proofs.lemmas.Grind.{flat_map-append}
 use Rattle.std.proofs.lemmas.List.Elements.{All-nil, All-head, All-tail, All-push, All-weaker, All-contains, Contains-append_left}
 use Rattle.std.proofs.lemmas.List.Elements.{Contains-push}
 use Rattle.gix_hash_core.specs.declared.kind.Kind.{Kind}
-use Rattle.tree_objects.specs.Trees.{EntryView, AreEntriesAnd, IsName, key_of}
-use Rattle.tree_changes.specs.Stands.{World, Item, item_of, item_id, entries_of, is_subtree, slashed}
+use Rattle.tree_objects.specs.Tree.{TreeEntry, AreEntriesAnd, IsName, key_of}
+use Rattle.tree_changes.specs.Stands.{World, Item, item_of, item_id, entries_of, is_directory, slashed}
 use Rattle.tree_changes.specs.Walk.{Change, IsChange, IsItself, IsBelow, IsEarlier, change_key, end_if, under, IsNext, Pending}
 use Rattle.tree_changes.specs.Walk.{IsLeftIn, IsLeft, AreSorted, AreRisingChanges, IsFoundIn}
 use Rattle.tree_changes.proofs.SideLemmas.{key_is}
@@ -50,9 +50,9 @@ some_front : (n x : List ℕ) → 0 < length n → 0 < length (n ++ x)
 some_front [] x h = absurd (omega arith)
 some_front (b ∷ n) x h = omega arith
 
-key_some : (e : EntryView) (y : List ℕ) → IsName e.name → 0 < length (key_of e ++ y)
+key_some : (e : TreeEntry) (y : List ℕ) → IsName e.name → 0 < length (key_of e ++ y)
 key_some e y h =
-    let end = end_if (is_subtree e.kind) in
+    let end = end_if (is_directory e.kind) in
     subst (λ t. 0 < length (t ++ y)) (sym (key_is e)) (some_front (e.name ++ end) y (some_front e.name end h.0))
 
 pub rising_push : (found : List Change) (c : Change) → AreRisingChanges found → All (λ x. IsEarlier x c) found
@@ -105,7 +105,7 @@ module _ (world : World) (old new : Option (List ℕ)) (found : List Change) (p 
   }
 
 -- the change at a pair
-abbrev pub change_at : List (List ℕ) → Option EntryView → Option EntryView → List ℕ → Bool → Change
+abbrev pub change_at : List (List ℕ) → Option TreeEntry → Option TreeEntry → List ℕ → Bool → Change
 change_at dirs a b name directory =
     record { directory = directory; directories = dirs; name = name; old = option_map item_of a; new = option_map item_of b }
 
@@ -152,7 +152,7 @@ change_is c d e f g i j =
     } in t) j
 
 module _ (kind : Kind) (world : World) (old new : Option (List ℕ)) (found : List Change) (p : Pending) (ps : List Pending)
-    (h : IsFoundIn world old new found (p ∷ ps)) (a b : Option EntryView) (old_bytes new_bytes name : List ℕ) (directory : Bool)
+    (h : IsFoundIn world old new found (p ∷ ps)) (a b : Option TreeEntry) (old_bytes new_bytes name : List ℕ) (directory : Bool)
     (next : IsNext kind p.olds p.news a b old_bytes new_bytes name directory) where
   abbrev here : Change
   here = change_at p.directories a b name directory
@@ -218,7 +218,7 @@ module _ (kind : Kind) (world : World) (old new : Option (List ℕ)) (found : Li
       ((λ c d l m. h.sorted.0 c d (rest_in c l) m), h.sorted.1)
 
   -- what is left below directories
-  module _ (old_entries new_entries : List ℕ) (xs ys : List EntryView) (are_xs : AreEntriesAnd kind old_entries xs [])
+  module _ (old_entries new_entries : List ℕ) (xs ys : List TreeEntry) (are_xs : AreEntriesAnd kind old_entries xs [])
       (are_ys : AreEntriesAnd kind new_entries ys []) (xs_are : entries_of world (item_id (option_map item_of a)) ≡ xs)
       (ys_are : entries_of world (item_id (option_map item_of b)) ≡ ys) (e : directory ≡ true) where
     abbrev below : Pending
@@ -231,9 +231,8 @@ module _ (kind : Kind) (world : World) (old new : Option (List ℕ)) (found : Li
       rest = r;
       directories_are = refl;
       change =
-          let P : List EntryView → Type 0 =
-          λ t. IsChange world t (entries_of world (item_id (option_map item_of b))) (under r d) in
-          let Q : List EntryView → Type 0 = λ t. IsChange world xs t (under r d) in
+          let P : List TreeEntry → Type 0 = λ t. IsChange world t (entries_of world (item_id (option_map item_of b))) (under r d) in
+          let Q : List TreeEntry → Type 0 = λ t. IsChange world xs t (under r d) in
           subst P (sym xs_are) (subst Q (sym ys_are) change);
     }
 
@@ -298,9 +297,9 @@ module _ (kind : Kind) (world : World) (old new : Option (List ℕ)) (found : Li
         → IsBelow world a b name directory (under r d)
         → IsLeftIn world below d
     was_below d r f i =
-        let P : List EntryView → Type 0 = λ t. IsChange world t (entries_of world (item_id (option_map item_of b))) (under i.rest
+        let P : List TreeEntry → Type 0 = λ t. IsChange world t (entries_of world (item_id (option_map item_of b))) (under i.rest
         d) in
-        let Q : List EntryView → Type 0 = λ t. IsChange world xs t (under i.rest d) in (
+        let Q : List TreeEntry → Type 0 = λ t. IsChange world xs t (under i.rest d) in (
           i.rest,
           f ∙ ap (λ t. p.directories ++ t) i.directories_are ∙ sym (append_assoc p.directories (name ∷ []) i.rest),
           subst Q ys_are (subst P xs_are i.change),

@@ -4,7 +4,7 @@ use Rattle.std.specs.List.{sum_by}
 use Rattle.std.specs.Ordering.{nat_cmp}
 use Rattle.std.specs.Cmp.Lexicographic.{slice_cmp}
 use Rattle.std.specs.declared.cmp.Ordering.TheVariants.{Less}
-use Rattle.tree_objects.specs.Trees.{IsName}
+use Rattle.tree_objects.specs.Tree.{IsName}
 use Rattle.tree_changes.specs.Stands.{World, TreePath, joined, IsChanged, HasOtherDirectory, directory_at, item_id}
 use Rattle.tree_changes.specs.declared.changes.Refusal.{Refusal}
 use Rattle.tree_changes.specs.declared.changes.Refusal.TheVariants.{TooMany, TooDeep, TooMuch, Source, OutOfMemory}
@@ -71,8 +71,7 @@ pub record IsMuch (world : World) (old new : Option (List ℕ)) (most : ℕ) : T
 
 -- the id is that of the directory at a path, in one of two trees
 abbrev pub IsIdAt : World → Option (List ℕ) → Option (List ℕ) → TreePath → List ℕ → Type 0
-IsIdAt world old new path id =
-    (item_id (directory_at world old path) ≡ Some id) ⊎ (item_id (directory_at world new path) ≡ Some id)
+IsIdAt world old new path id = (item_id (directory_at world old path) ≡ Some id) ⊎ (item_id (directory_at world new path) ≡ Some id)
 
 -- the tree with this id has to be read: it is one of both, or a directory at a path where other directories stand
 abbrev pub IsNeeded : World → Option (List ℕ) → Option (List ℕ) → List ℕ → Type 0
@@ -81,11 +80,11 @@ IsNeeded world old new id =
     ⊎ ((path : TreePath) × HasOtherDirectory world old new path × IsIdAt world old new path id)
 
 -- why the paths are not told
-abbrev pub IsChangesRefusal : {E : Type 0} → (List ℕ → E → Type 0) → ℕ → ℕ → ℕ → World → Option (List ℕ) → Option (List ℕ)
+abbrev pub IsChangeRefusal : {E : Type 0} → (List ℕ → E → Type 0) → ℕ → ℕ → ℕ → World → Option (List ℕ) → Option (List ℕ)
     → Refusal E → Type 0
-IsChangesRefusal refused paths names trees world old new TooMany = AreMore world old new paths
-IsChangesRefusal refused paths names trees world old new TooDeep = IsDeeper world old new names
-IsChangesRefusal refused paths names trees world old new TooMuch = IsMuch world old new trees
-IsChangesRefusal refused paths names trees world old new (Source error) =
+IsChangeRefusal refused paths names trees world old new TooMany = AreMore world old new paths
+IsChangeRefusal refused paths names trees world old new TooDeep = IsDeeper world old new names
+IsChangeRefusal refused paths names trees world old new TooMuch = IsMuch world old new trees
+IsChangeRefusal refused paths names trees world old new (Source error) =
     (id : List ℕ) × IsNeeded world old new id × refused id error
-IsChangesRefusal refused paths names trees world old new OutOfMemory = ⊤
+IsChangeRefusal refused paths names trees world old new OutOfMemory = ⊤

@@ -1,5 +1,5 @@
 pub mod Stands
 pub mod Changes
 pub mod Walk
-pub mod WaySteps
+pub mod Reads
 pub mod InTurn

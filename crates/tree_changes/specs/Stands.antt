@@ -5,11 +5,11 @@ use Rattle.std.specs.List.{flat_map}
 use Rattle.std.specs.Cmp.Lexicographic.{pointwise}
 use Rattle.tree_objects.specs.declared.mode.EntryKind.{EntryKind}
 use Rattle.tree_objects.specs.declared.mode.EntryKind.TheVariants.{Directory, File, Executable, Link, Submodule}
-use Rattle.tree_objects.specs.Trees.{EntryView}
+use Rattle.tree_objects.specs.Tree.{TreeEntry}
 
 -- which trees there are: the entries of that with an id
 abbrev pub World : Type 0
-World = List ℕ → Option (List EntryView)
+World = List ℕ → Option (List TreeEntry)
 
 -- What an entry names. Two are alike where kind and id are.
 pub record Item : Type 0 where
@@ -29,34 +29,34 @@ slashed directories = flat_map (λ name. name ++ 47 ∷ []) directories
 abbrev pub joined : TreePath → List ℕ
 joined path = slashed path.directories ++ path.name
 
-abbrev pub is_subtree : EntryKind → Bool
-is_subtree Directory = true
-is_subtree File = false
-is_subtree Executable = false
-is_subtree Link = false
-is_subtree Submodule = false
+abbrev pub is_directory : EntryKind → Bool
+is_directory Directory = true
+is_directory File = false
+is_directory Executable = false
+is_directory Link = false
+is_directory Submodule = false
 
 -- whether the entry has this name, and is a directory, if one is asked for, or else is none
-abbrev pub is_named : Bool → List ℕ → EntryView → Bool
+abbrev pub is_named : Bool → List ℕ → TreeEntry → Bool
 is_named directory name entry =
-    cond directory (is_subtree entry.kind) (not (is_subtree entry.kind)) && pointwise nat_eq entry.name name
+    cond directory (is_directory entry.kind) (not (is_directory entry.kind)) && pointwise nat_eq entry.name name
 
-abbrev pub item_of : EntryView → Item
+abbrev pub item_of : TreeEntry → Item
 item_of entry = record { kind = entry.kind; id = entry.id }
 
 -- what the entry of a name names, among entries: a directory, if one is asked for, or else what is none
-abbrev pub item_named : Bool → List ℕ → List EntryView → Option Item
+abbrev pub item_named : Bool → List ℕ → List TreeEntry → Option Item
 item_named directory name [] = None
 item_named directory name (entry ∷ entries) =
     cond (is_named directory name entry) (Some (item_of entry)) (item_named directory name entries)
 
 -- the entries of a tree that may be none
-abbrev pub entries_or_none : Option (List EntryView) → List EntryView
+abbrev pub entries_or_none : Option (List TreeEntry) → List TreeEntry
 entries_or_none None = []
 entries_or_none (Some entries) = entries
 
 -- the entries of the tree with an id; where there is no tree, there are none
-abbrev pub entries_of : World → Option (List ℕ) → List EntryView
+abbrev pub entries_of : World → Option (List ℕ) → List TreeEntry
 entries_of world None = []
 entries_of world (Some id) = entries_or_none (world id)
 
@@ -65,7 +65,7 @@ abbrev pub item_id : Option Item → Option (List ℕ)
 item_id item = option_map (λ i. i.id) item
 
 -- what stands at a path below entries: a directory, if one is asked for, or else what is none
-abbrev pub item_at : World → Bool → List EntryView → List (List ℕ) → List ℕ → Option Item
+abbrev pub item_at : World → Bool → List TreeEntry → List (List ℕ) → List ℕ → Option Item
 item_at world directory entries [] name = item_named directory name entries
 item_at world directory entries (first ∷ directories) name =
     item_at world directory (entries_of world (item_id (item_named true first entries))) directories name

@@ -7,9 +7,9 @@ use Rattle.std.specs.Ordering.{nat_cmp}
 use Rattle.std.specs.Cmp.Lexicographic.{slice_cmp}
 use Rattle.std.specs.declared.cmp.Ordering.TheVariants.{Less}
 use Rattle.gix_hash_core.specs.declared.kind.Kind.{Kind}
-use Rattle.tree_objects.specs.Trees.{EntryView, AreEntriesAnd, IsName, key_of}
-use Rattle.tree_objects.specs.Trees.{AreInOrder}
-use Rattle.tree_changes.specs.Stands.{World, Item, item_of, item_at, item_id, entries_of, is_subtree, slashed}
+use Rattle.tree_objects.specs.Tree.{TreeEntry, AreEntriesAnd, IsName, key_of}
+use Rattle.tree_objects.specs.Tree.{AreInOrder}
+use Rattle.tree_changes.specs.Stands.{World, Item, item_of, item_at, item_id, entries_of, is_directory, slashed}
 use Rattle.tree_changes.specs.Changes.{one_if_some}
 use Rattle.tree_changes.specs.declared.trees.Level.{Level}
 
@@ -22,7 +22,7 @@ pub record Change : Type 0 where
   pub new : Option Item
 
 -- it is what differs there below these entries and those
-abbrev pub IsChange : World → List EntryView → List EntryView → Change → Type 0
+abbrev pub IsChange : World → List TreeEntry → List TreeEntry → Change → Type 0
 IsChange world olds news c =
     (item_at world c.directory olds c.directories c.name ≡ c.old) × (item_at world c.directory news c.directories c.name ≡ c.new)
     × (c.old ≢ c.new)
@@ -43,7 +43,7 @@ abbrev pub IsEarlier : Change → Change → Type 0
 IsEarlier a b = slice_cmp nat_cmp (change_key a) (change_key b) ≡ Less
 
 -- what differs at the name itself of two entries
-pub record IsItself (old new : Option EntryView) (name : List ℕ) (directory : Bool) (c : Change) : Type 0 where
+pub record IsItself (old new : Option TreeEntry) (name : List ℕ) (directory : Bool) (c : Change) : Type 0 where
   pub directory_is : c.directory ≡ directory
   pub top : c.directories ≡ []
   pub name_is : c.name ≡ name
@@ -52,14 +52,14 @@ pub record IsItself (old new : Option EntryView) (name : List ℕ) (directory : 
   pub differs : c.old ≢ c.new
 
 -- what differs below the directories that they are
-pub record IsBelow (world : World) (old new : Option EntryView) (name : List ℕ) (directory : Bool) (c : Change) : Type 0 where
+pub record IsBelow (world : World) (old new : Option TreeEntry) (name : List ℕ) (directory : Bool) (c : Change) : Type 0 where
   pub directory_is : directory ≡ true
   pub rest : List (List ℕ)
   pub directories_are : c.directories ≡ name ∷ rest
   pub change : IsChange world (entries_of world (item_id (option_map item_of old))) (entries_of world (item_id (option_map item_of
       new))) (under rest c)
 
-abbrev pub IsHere : World → Option EntryView → Option EntryView → List ℕ → Bool → Change → Type 0
+abbrev pub IsHere : World → Option TreeEntry → Option TreeEntry → List ℕ → Bool → Change → Type 0
 IsHere world old new name directory c = IsItself old new name directory c ⊎ IsBelow world old new name directory c
 
 -- bytes end with these
@@ -67,20 +67,20 @@ abbrev pub IsEnd : List ℕ → List ℕ → Type 0
 IsEnd bytes end = (front : List ℕ) × (bytes ≡ front ++ end)
 
 -- One side of a pair: its entries are the first, where it is of the name, and others, all behind the name.
-pub record IsSide (kind : Kind) (entries : List EntryView) (first : Option EntryView) (bytes name : List ℕ) (directory : Bool) :
+pub record IsSide (kind : Kind) (entries : List TreeEntry) (first : Option TreeEntry) (bytes name : List ℕ) (directory : Bool) :
     Type 0 where
-  pub rest : List EntryView
+  pub rest : List TreeEntry
   pub all : entries ≡ option_to_list first ++ rest
   pub entries_are : AreEntriesAnd kind bytes rest []
   pub in_order : AreInOrder rest
-  pub named : IfSome first (λ e. (e.name ≡ name) × (is_subtree e.kind ≡ directory))
+  pub named : IfSome first (λ e. (e.name ≡ name) × (is_directory e.kind ≡ directory))
   pub behind : All (λ e. slice_cmp nat_cmp (name ++ end_if directory) (key_of e) ≡ Less) rest
 
 -- The next difference between entries: what differs is here, or among those that are behind it.
-pub record IsNext (kind : Kind) (olds news : List EntryView) (old new : Option EntryView) (old_bytes new_bytes name : List ℕ)
+pub record IsNext (kind : Kind) (olds news : List TreeEntry) (old new : Option TreeEntry) (old_bytes new_bytes name : List ℕ)
     (directory : Bool) : Type 0 where
-  pub olds_rest : List EntryView
-  pub news_rest : List EntryView
+  pub olds_rest : List TreeEntry
+  pub news_rest : List TreeEntry
   pub old_entries : AreEntriesAnd kind old_bytes olds_rest []
   pub new_entries : AreEntriesAnd kind new_bytes news_rest []
   pub old_order : AreInOrder olds_rest
@@ -95,8 +95,8 @@ pub record IsNext (kind : Kind) (olds news : List EntryView) (old new : Option E
 -- What is left of two trees side by side: entries of both, below these directories.
 pub record Pending : Type 0 where
   pub directories : List (List ℕ)
-  pub olds : List EntryView
-  pub news : List EntryView
+  pub olds : List TreeEntry
+  pub news : List TreeEntry
 
 abbrev pub IsLeftIn : World → Pending → Change → Type 0
 IsLeftIn world p c =

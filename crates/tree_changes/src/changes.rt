@@ -3,7 +3,7 @@
 ghost use Rattle.std.specs.Prelude.{◌≡◌, ◌≤◌, ℕ, List, length, IfOk, IfErr, Some, map, option_map};
 ghost use Rattle.gix_hash_core.specs.Oid.{oid_bytes};
 ghost use Rattle.tree_changes.specs.Stands.{World};
-ghost use Rattle.tree_changes.specs.Changes.{AreChanged, IsChangesRefusal};
+ghost use Rattle.tree_changes.specs.Changes.{AreChanged, IsChangeRefusal};
 
 use crate::source::TreeSource;
 use crate::walk::Walk;
@@ -72,7 +72,7 @@ pub fn changed_paths<S: TreeSource>(
         (map (λ path. path.items) paths.items)) }
     ensures few { IfOk result (λ paths. length paths.items ≤ limits.paths) }
     ensures refused { IfErr result (λ refusal. (world : World) → S.says source.new world
-        → IsChangesRefusal (S.has_refused source.new) limits.paths limits.names limits.trees world
+        → IsChangeRefusal (S.has_refused source.new) limits.paths limits.names limits.trees world
         (option_map oid_bytes old.entry) (Some (oid_bytes new.entry)) refusal) }
 {
     let mut found = Vec::new(alloc);

@@ -3,7 +3,7 @@
 ghost use Rattle.std.specs.Prelude.{◌≡◌, ℕ, List, [], IfOk, IfErr, Option, Some, option_map};
 ghost use Rattle.gix_hash_core.specs.Oid.{oid_bytes};
 ghost use Rattle.tree_changes.specs.Stands.{World};
-ghost use Rattle.tree_changes.specs.WaySteps.{IsStopped};
+ghost use Rattle.tree_changes.specs.Reads.{IsStopped};
 ghost use Rattle.tree_changes.specs.InTurn.{HasTold, GoesOn, last_told};
 
 use crate::changes::{Limits, Refusal};

@@ -2,7 +2,7 @@
 
 ghost use Rattle.std.specs.Prelude.{◌≡◌, ℕ, List, OnOk, IfErr, Some};
 ghost use Rattle.gix_hash_core.specs.declared.kind.Kind.{Kind as HashKind};
-ghost use Rattle.tree_objects.specs.Trees.{EntryView, IsTree};
+ghost use Rattle.tree_objects.specs.Tree.{TreeEntry, IsTree};
 ghost use Rattle.tree_changes.specs.Stands.{World};
 
 use gix_hash_core::Kind;
@@ -36,7 +36,7 @@ pub trait TreeSource {
     fn read(&mut self, id: &[u8], contents: &mut Vec<u8>) -> Result<(), Self::Error>
         ensures kind { kind_is self.new ≡ kind_is self.old }
         ensures kept { (world : World) → says self.new world → says self.old world }
-        ensures tree { OnOk result ((entries : List EntryView)
+        ensures tree { OnOk result ((entries : List TreeEntry)
             × IsTree (kind_is self.old) contents.new.items entries
             × ((world : World) → says self.new world → world id.now ≡ Some entries)) }
         ensures refused { IfErr result (λ error. has_refused self.new id.now error) };

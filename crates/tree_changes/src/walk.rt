@@ -3,13 +3,13 @@
 ghost use Rattle.std.specs.Prelude.{◌≡◌, ◌+◌, ℕ, List, [], IfOk, IfErr, MatchOption, Option, Some};
 ghost use Rattle.std.specs.Prelude.{option_map};
 ghost use Rattle.gix_hash_core.specs.Oid.{oid_bytes};
-ghost use Rattle.tree_objects.specs.EntryView.{view_of};
+ghost use Rattle.tree_objects.specs.Entry.{entry_of};
 ghost use Rattle.tree_changes.specs.Stands.{World, item_of, item_id};
 ghost use Rattle.tree_changes.specs.Changes.{one_if_some};
 ghost use Rattle.tree_changes.specs.Walk.{Change, IsFoundSoFar};
-ghost use Rattle.tree_changes.specs.WaySteps.{IsReadTree, IsTreeReadRefusal};
-ghost use Rattle.tree_changes.specs.WaySteps.{IsReadLevel, IsReadRefusal};
-ghost use Rattle.tree_changes.specs.WaySteps.{IsFoundThen, IsStopped};
+ghost use Rattle.tree_changes.specs.Reads.{IsReadTree, IsTreeReadRefusal};
+ghost use Rattle.tree_changes.specs.Reads.{IsReadLevel, IsReadRefusal};
+ghost use Rattle.tree_changes.specs.Reads.{IsFoundThen, IsStopped};
 
 use crate::changes::{Limits, Refusal};
 use crate::level::next_difference;
@@ -147,7 +147,7 @@ fn bytes_of(id: Option<oid<'_>>) -> Option<&[u8]>
 /// The id of an entry, where there is one.
 fn id_in(entry: Option<Entry<'_>>) -> Option<&[u8]>
     ensures { option_map (λ id. id.now) result
-        ≡ item_id (option_map item_of (option_map view_of entry.entry)) }
+        ≡ item_id (option_map item_of (option_map entry_of entry.entry)) }
 {
     match entry {
         Some(entry) => Some(entry.id),

@@ -2,21 +2,21 @@
 use Rattle.std.proofs.Common.{◌≡◌, ℕ, List, [], ◌∷◌, ◌++◌, length, length-append, append-nil, append_assoc, refl, sym, ap, ◌∙◌}
 use Rattle.std.proofs.Common.{subst, ◌⊎◌, inl, inr, arith}
 use Rattle.gix_hash_core.specs.declared.kind.Kind.{Kind}
-use Rattle.tree_objects.specs.Trees.{EntryView, BeginsWithEntry, AreEntriesAnd, StandsBefore, AreInOrder, IsTree, IsUnreadableAt}
-use Rattle.tree_objects.specs.Trees.{IsOutOfOrderAt}
-use Rattle.tree_objects.specs.TreeRefusal.{IsTreeRefusal}
+use Rattle.tree_objects.specs.Tree.{TreeEntry, BeginsWithEntry, AreEntriesAnd, StandsBefore, AreInOrder, IsTree, IsUnreadableAt}
+use Rattle.tree_objects.specs.Tree.{IsOutOfOrderAt}
+use Rattle.tree_objects.specs.Refusal.{IsTreeRefusal}
 use Rattle.tree_objects.specs.declared.check.TreeError.{TreeError}
 use Rattle.tree_objects.specs.declared.check.TreeError.TheVariants.{Unreadable, Order}
 use Rattle.tree_objects.proofs.SplitLemmas.{one_entry}
 use Rattle.tree_objects.proofs.CheckLemmas.{entry_is_long}
 
 -- One reading of bytes goes on where another has ended.
-pub record GoesOn (kind : Kind) (xs : List EntryView) (x : List ℕ) (ys : List EntryView) (y : List ℕ) : Type 0 where
-  pub more : List EntryView
+pub record GoesOn (kind : Kind) (xs : List TreeEntry) (x : List ℕ) (ys : List TreeEntry) (y : List ℕ) : Type 0 where
+  pub more : List TreeEntry
   pub all : ys ≡ xs ++ more
   pub read : AreEntriesAnd kind x more y
 
-pub one_goes_on : (kind : Kind) (bytes : List ℕ) (xs ys : List EntryView) (x y : List ℕ) → AreEntriesAnd kind bytes xs x
+pub one_goes_on : (kind : Kind) (bytes : List ℕ) (xs ys : List TreeEntry) (x y : List ℕ) → AreEntriesAnd kind bytes xs x
     → AreEntriesAnd kind bytes ys y → GoesOn kind xs x ys y ⊎ GoesOn kind ys y xs x
 one_goes_on kind bytes [] ys x y h k =
     inl (record { more = ys; all = refl; read = subst (λ b. AreEntriesAnd kind b ys y) h k })
@@ -38,37 +38,37 @@ one_goes_on kind bytes (a ∷ xs) (b ∷ ys) x y h k =
     ]
 
 -- no bytes are no entries
-none_in_nothing : (kind : Kind) (more : List EntryView) (y : List ℕ) → AreEntriesAnd kind [] more y → more ≡ []
+none_in_nothing : (kind : Kind) (more : List TreeEntry) (y : List ℕ) → AreEntriesAnd kind [] more y → more ≡ []
 none_in_nothing kind [] y h = refl
 none_in_nothing kind (a ∷ more) y h =
     absurd (let long = entry_is_long kind [] a h.0 h.1 in omega arith)
 
 -- where no entry is, there are none
-none_there : (kind : Kind) (bytes : List ℕ) (more : List EntryView) (y : List ℕ)
-    → ((e : EntryView) (next : List ℕ) → BeginsWithEntry kind bytes e next → ⊥) → AreEntriesAnd kind bytes more y → more ≡ []
+none_there : (kind : Kind) (bytes : List ℕ) (more : List TreeEntry) (y : List ℕ)
+    → ((e : TreeEntry) (next : List ℕ) → BeginsWithEntry kind bytes e next → ⊥) → AreEntriesAnd kind bytes more y → more ≡ []
 none_there kind bytes [] y none h = refl
 none_there kind bytes (a ∷ more) y none h = absurd (none a h.0 h.1)
 
-pub rest_rising : (a : EntryView) (entries : List EntryView) → AreInOrder (a ∷ entries) → AreInOrder entries
+pub rest_rising : (a : TreeEntry) (entries : List TreeEntry) → AreInOrder (a ∷ entries) → AreInOrder entries
 rest_rising a [] rising = tt
 rest_rising a (b ∷ entries) rising = rising.1
 
 -- neighbours in order
-pub rising_pair : (front : List EntryView) (a b : EntryView) (more : List EntryView)
+pub rising_pair : (front : List TreeEntry) (a b : TreeEntry) (more : List TreeEntry)
     → AreInOrder ((front ++ a ∷ b ∷ []) ++ more) → StandsBefore a b
 rising_pair [] a b more rising = rising.0
 rising_pair (c ∷ front) a b more rising =
     rising_pair front a b more (rest_rising c ((front ++ a ∷ b ∷ []) ++ more) rising)
 
 -- the bytes of one tree
-pub one_tree : (kind : Kind) (bytes : List ℕ) (xs ys : List EntryView) → IsTree kind bytes xs → IsTree kind bytes ys → xs ≡ ys
+pub one_tree : (kind : Kind) (bytes : List ℕ) (xs ys : List TreeEntry) → IsTree kind bytes xs → IsTree kind bytes ys → xs ≡ ys
 one_tree kind bytes xs ys h k =
     elim (one_goes_on kind bytes xs ys [] [] h.are_entries k.are_entries) [
       | inl f ↦ sym (f.all ∙ ap (λ t. xs ++ t) (none_in_nothing kind f.more [] f.read) ∙ append-nil xs)
       | inr f ↦ f.all ∙ ap (λ t. ys ++ t) (none_in_nothing kind f.more [] f.read) ∙ append-nil ys
     ]
 
-unreadable_is_none : (kind : Kind) (bytes : List ℕ) (n : ℕ) (entries : List EntryView) → IsUnreadableAt kind bytes n
+unreadable_is_none : (kind : Kind) (bytes : List ℕ) (n : ℕ) (entries : List TreeEntry) → IsUnreadableAt kind bytes n
     → IsTree kind bytes entries → ⊥
 unreadable_is_none kind bytes n entries u h =
     elim (one_goes_on kind bytes u.entries entries u.rest [] u.read h.are_entries) [
@@ -76,7 +76,7 @@ unreadable_is_none kind bytes n entries u h =
       | inr f ↦ u.more (sym (subst (λ t. AreEntriesAnd kind [] t u.rest) (none_in_nothing kind f.more u.rest f.read) f.read))
     ]
 
-out_of_order_is_none : (kind : Kind) (bytes : List ℕ) (n : ℕ) (entries : List EntryView) → IsOutOfOrderAt kind bytes n
+out_of_order_is_none : (kind : Kind) (bytes : List ℕ) (n : ℕ) (entries : List TreeEntry) → IsOutOfOrderAt kind bytes n
     → IsTree kind bytes entries → ⊥
 out_of_order_is_none kind bytes n entries o h =
     elim (one_goes_on kind bytes (o.entries ++ o.last ∷ o.entry ∷ []) entries o.rest [] o.read h.are_entries) [
@@ -89,18 +89,18 @@ out_of_order_is_none kind bytes n entries o h =
           o.not_behind (rising_pair o.entries o.last o.entry [] (subst AreInOrder (sym all) h.rising))
     ]
 
-pub refused_is_none : (kind : Kind) (bytes : List ℕ) (error : TreeError) (entries : List EntryView)
+pub refused_is_none : (kind : Kind) (bytes : List ℕ) (error : TreeError) (entries : List TreeEntry)
     → IsTreeRefusal kind bytes error → IsTree kind bytes entries → ⊥
 refused_is_none kind bytes (Unreadable n) entries refused h = unreadable_is_none kind bytes n entries refused h
 refused_is_none kind bytes (Order n) entries refused h = out_of_order_is_none kind bytes n entries refused h
 
 -- what comes before the last of a list is empty, or the list without its last goes on there
-nothing_left : (xs more : List EntryView) → xs ++ more ≡ [] → more ≡ []
+nothing_left : (xs more : List TreeEntry) → xs ++ more ≡ [] → more ≡ []
 nothing_left [] more e = e
 nothing_left (x ∷ xs) more e = cc
 
-front_of_more : (xs ys more : List EntryView) (z : EntryView) → ys ++ z ∷ [] ≡ xs ++ more
-    → (more ≡ []) ⊎ ((front : List EntryView) × (ys ≡ xs ++ front))
+front_of_more : (xs ys more : List TreeEntry) (z : TreeEntry) → ys ++ z ∷ [] ≡ xs ++ more
+    → (more ≡ []) ⊎ ((front : List TreeEntry) × (ys ≡ xs ++ front))
 front_of_more [] ys more z e = inr (ys, refl)
 front_of_more (x ∷ xs) [] more z e = inl (nothing_left xs more (let f : [] ≡ xs ++ more = cc in sym f))
 front_of_more (x ∷ xs) (y ∷ ys) more z e =

@@ -6,8 +6,8 @@ ghost use Rattle.std.specs.Ordering.{nat_cmp};
 ghost use Rattle.std.specs.Cmp.Lexicographic.{slice_cmp};
 ghost use Rattle.std.specs.List.{AllPass};
 ghost use Rattle.tree_objects.specs.Mode.{is_octal};
-ghost use Rattle.tree_objects.specs.EntryView.{view_of};
-ghost use Rattle.tree_objects.specs.Trees.{EntryView, BeginsWithEntry, IsName, key_end, key_of};
+ghost use Rattle.tree_objects.specs.Entry.{entry_of};
+ghost use Rattle.tree_objects.specs.Tree.{TreeEntry, BeginsWithEntry, IsName, key_end, key_of};
 
 use crate::mode::{EntryKind, are_octal, kind_by_mode, lower_bits};
 use gix_hash_core::Kind;
@@ -36,8 +36,8 @@ pub struct SplitEntry<'a> {
 /// The entry with which the bytes begin, and what follows it. `None` where they begin with none.
 pub fn split_entry<'a>(kind: Kind, bytes: &'a [u8]) -> Option<SplitEntry<'a>>
     ensures { MatchOption result
-        ((entry : EntryView) (next : List ℕ) → ¬ BeginsWithEntry kind bytes.now entry next)
-        (λ found. BeginsWithEntry kind bytes.now (view_of found.entry) found.next.now) }
+        ((entry : TreeEntry) (next : List ℕ) → ¬ BeginsWithEntry kind bytes.now entry next)
+        (λ found. BeginsWithEntry kind bytes.now (entry_of found.entry) found.next.now) }
 {
     let Some(mode) = split_at_byte(b' ', bytes) else {
         return None;
@@ -123,7 +123,7 @@ fn place_of(value: u8, bytes: &[u8]) -> Option<usize>
 /// Which of two entries stands before the other in Git's order.
 #[tactic(auto, unfolding(crate::specs::Tree::key_of))]
 pub fn order(a: Entry<'_>, b: Entry<'_>) -> Ordering
-    ensures { result ≡ slice_cmp nat_cmp (key_of (view_of a.entry)) (key_of (view_of b.entry)) }
+    ensures { result ≡ slice_cmp nat_cmp (key_of (entry_of a.entry)) (key_of (entry_of b.entry)) }
 {
     order_of_keys(a.name, a.kind, b.name, b.kind)
 }

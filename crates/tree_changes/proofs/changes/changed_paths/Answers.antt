@@ -3,7 +3,7 @@ use Rattle.std.proofs.Common.{rules, ◌≡◌, ◌++◌, ◌∷◌, ℕ, List, 
 use Rattle.std.proofs.lemmas.List.{length-map, map-append}
 use Rattle.gix_hash_core.specs.Oid.{oid_bytes}
 use Rattle.tree_changes.specs.Walk.{IsFoundSoFar}
-use Rattle.tree_changes.specs.WaySteps.{IsStopped}
+use Rattle.tree_changes.specs.Reads.{IsStopped}
 use Rattle.tree_changes.proofs.FinalLemmas.{by_kind, all_found, too_many, stopped}
 use Rattle.tree_changes.proofs.changes.changed_paths.Goals as goal
 

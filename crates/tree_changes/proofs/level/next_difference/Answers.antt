@@ -1,6 +1,6 @@
 use Rattle.std.proofs.Common.{rules, refl}
 use Rattle.std.specs.Prelude.{option_map}
-use Rattle.tree_objects.specs.EntryView.{view_of}
+use Rattle.tree_objects.specs.Entry.{entry_of}
 use Rattle.tree_changes.proofs.EndLemmas.{end_of_end, itself}
 use Rattle.tree_changes.proofs.NextLemmas.{past_none, past_more, next_is, past_all}
 use Rattle.tree_changes.proofs.level.next_difference.Goals as goal
@@ -9,7 +9,7 @@ pub returns-then-not-are_alike-clause-pair : goal.returns-then-not-are_alike-cla
 returns-then-not-are_alike-clause-pair c = λ olds news h k r s.
     let pair = c.in-Some.pair in
     next_is c.args.kind olds news c.loop-pair.old_rest.now c.loop-pair.new_rest.now
-    (c.loop-pair.invariant.past olds news h k r s) (option_map view_of pair.old) (option_map view_of pair.new)
+    (c.loop-pair.invariant.past olds news h k r s) (option_map entry_of pair.old) (option_map entry_of pair.new)
     pair.old_rest.now pair.new_rest.now pair.name.now pair.directory c.in-Some.ensures.pair
     (λ alike. let yes = c.if-not-are_alike.ensures.1 alike in search rules)
 
@@ -19,7 +19,7 @@ loop-pair-preserved c =
     record {
       past = λ olds news h k r s.
           past_more c.args.kind olds news c.loop-pair.old_rest.now c.loop-pair.new_rest.now
-          (c.loop-pair.invariant.past olds news h k r s) (option_map view_of pair.old) (option_map view_of pair.new)
+          (c.loop-pair.invariant.past olds news h k r s) (option_map entry_of pair.old) (option_map entry_of pair.new)
           pair.old_rest.now pair.new_rest.now pair.name.now pair.directory c.in-Some.ensures.pair
           (c.if-not-are_alike.ensures.0 refl);
       old_end =

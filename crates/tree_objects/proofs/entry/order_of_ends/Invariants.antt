@@ -1,7 +1,7 @@
 use Rattle.std.proofs.Common.{◌≡◌, ◌++◌, ◌≤◌, ◌-◌, length, drop}
 use Rattle.std.specs.Ordering.{nat_cmp}
 use Rattle.std.specs.Cmp.Lexicographic.{slice_cmp}
-use Rattle.tree_objects.specs.Trees.{key_end}
+use Rattle.tree_objects.specs.Tree.{key_end}
 use Rattle.tree_objects.proofs.entry.order_of_ends.Given as goal
 
 abbrev pub invariant-loop-first : goal.invariant-loop-first

@@ -1,6 +1,6 @@
 use Rattle.std.proofs.Common.{Some, refl, ◌∙◌, subst}
 use Rattle.std.proofs.lemmas.Result.{IfOk-weaker, IfErr-weaker}
-use Rattle.tree_changes.specs.WaySteps.{IsStopped}
+use Rattle.tree_changes.specs.Reads.{IsStopped}
 use Rattle.tree_changes.specs.InTurn.{HasFound}
 use Rattle.tree_changes.proofs.FirstLemmas.{goes_on}
 use Rattle.tree_changes.proofs.in_turn.ChangesInTurn.next.Goals as goal

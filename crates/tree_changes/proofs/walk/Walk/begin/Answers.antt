@@ -2,7 +2,7 @@ use Rattle.std.proofs.Common.{rules, ◌≡◌, ◌+◌, ◌∷◌, [], Some, op
 use Rattle.gix_hash_core.specs.Oid.{oid_bytes}
 use Rattle.tree_changes.specs.Changes.{one_if_some}
 use Rattle.tree_changes.specs.Walk.{IsFoundSoFar}
-use Rattle.tree_changes.specs.WaySteps.{IsReadLevel}
+use Rattle.tree_changes.specs.Reads.{IsReadLevel}
 use Rattle.tree_changes.proofs.LevelLemmas.{begun, one_mapped}
 use Rattle.tree_changes.proofs.walk.Walk.begin.Goals as goal
 

@@ -1,9 +1,9 @@
 use Rattle.std.proofs.Common.{rules, ◌≡◌, ◌+◌, ◌-◌, ◌++◌, ◌∷◌, [], option_map, length, take, drop, refl, ap, ◌∙◌, subst, arith}
-use Rattle.tree_objects.specs.EntryView.{view_of}
+use Rattle.tree_objects.specs.Entry.{entry_of}
 use Rattle.tree_changes.specs.Stands.{item_of, item_id}
 use Rattle.tree_changes.specs.Changes.{one_if_some}
 use Rattle.tree_changes.specs.Walk.{IsFoundSoFar}
-use Rattle.tree_changes.specs.WaySteps.{IsReadLevel, IsReadRefusal}
+use Rattle.tree_changes.specs.Reads.{IsReadLevel, IsReadRefusal}
 use Rattle.tree_changes.proofs.LevelLemmas.{one_mapped}
 use Rattle.tree_changes.proofs.NextStep.{level_on, leaf_then, tree_on, too_deep, not_read, left_is, slice_is}
 use Rattle.tree_changes.proofs.walk.Walk.next.Goals as goal
@@ -40,7 +40,7 @@ returns-then-not-pair-clause-found g c = λ old new budget found h.
     (take (length c.deref-in-Some.result.now - c.in-Some.level.new_at) (drop c.in-Some.level.new_at c.deref-in-Some.result.now))
     (slice_is c.deref.result.now c.in-Some.level.old.items c.in-Some.level.old_at c.deref.ensures.value)
     (slice_is c.deref-in-Some.result.now c.in-Some.level.new.items c.in-Some.level.new_at c.deref-in-Some.ensures.value)
-    (option_map view_of pair.old) (option_map view_of pair.new) pair.old_rest.now pair.new_rest.now pair.name.now pair.directory
+    (option_map entry_of pair.old) (option_map entry_of pair.new) pair.old_rest.now pair.new_rest.now pair.name.now pair.directory
     c.in-Some-next_difference.ensures.pair c.with_left-level.result c.with_left-level.ensures.prefix
     (left_is level.old.items c.with_left-level.result.old.items
     (take (length c.deref.result.now - level.old_at) (drop level.old_at c.deref.result.now)) pair.old_rest.now level.old_at
@@ -66,7 +66,7 @@ returns-then-len-self-clause-refused g c = λ old new budget found h.
     (take (length c.deref-in-Some.result.now - c.in-Some.level.new_at) (drop c.in-Some.level.new_at c.deref-in-Some.result.now))
     (slice_is c.deref.result.now c.in-Some.level.old.items c.in-Some.level.old_at c.deref.ensures.value)
     (slice_is c.deref-in-Some.result.now c.in-Some.level.new.items c.in-Some.level.new_at c.deref-in-Some.ensures.value)
-    (option_map view_of pair.old) (option_map view_of pair.new) pair.old_rest.now pair.new_rest.now pair.name.now pair.directory
+    (option_map entry_of pair.old) (option_map entry_of pair.new) pair.old_rest.now pair.new_rest.now pair.name.now pair.directory
     c.in-Some-next_difference.ensures.pair c.args.self.now.names c.if-not-pair.false
     (omega (arith, c.if-len-self.true, c.loop-level.invariant.names, c.len.ensures))
 
@@ -88,8 +88,8 @@ loop-level-preserved g c =
           let n : c.len-prefix.result ≡ length c.extend_from_slice-in-Some.new.self.items = search rules in
           let says = g.S.TreeSource.says c.read_level.new.source in
           let kind = g.S.TreeSource.kind_is c.args.source.now in
-          let a = item_id (option_map item_of (option_map view_of pair.old)) in
-          let b = item_id (option_map item_of (option_map view_of pair.new)) in
+          let a = item_id (option_map item_of (option_map entry_of pair.old)) in
+          let b = item_id (option_map item_of (option_map entry_of pair.new)) in
           let read : IsReadLevel kind says a b c.len-prefix.result c.in-Ok.below =
           subst (λ t. IsReadLevel t says a b c.len-prefix.result c.in-Ok.below) c.loop-level.invariant.kind
           (subst (λ t. IsReadLevel (g.S.TreeSource.kind_is c.loop-level.source) says a t c.len-prefix.result c.in-Ok.below)
@@ -116,7 +116,7 @@ loop-level-preserved g c =
           c.deref-in-Some.result.now))
           (slice_is c.deref.result.now c.in-Some.level.old.items c.in-Some.level.old_at c.deref.ensures.value)
           (slice_is c.deref-in-Some.result.now c.in-Some.level.new.items c.in-Some.level.new_at c.deref-in-Some.ensures.value)
-          (option_map view_of pair.old) (option_map view_of pair.new) pair.old_rest.now pair.new_rest.now pair.name.now
+          (option_map entry_of pair.old) (option_map entry_of pair.new) pair.old_rest.now pair.new_rest.now pair.name.now
           pair.directory
           c.in-Some-next_difference.ensures.pair c.with_left-level-in-Some.result c.with_left-level-in-Some.ensures.prefix
           (left_is level.old.items c.with_left-level-in-Some.result.old.items
@@ -144,8 +144,8 @@ returns-in-Err-clause-refused g c = λ old new budget found h world w.
     let first = c.read_level.ensures in
     let less = first.kept world w in
     let has = g.S.TreeSource.has_refused c.read_level.new.source in
-    let a = item_id (option_map item_of (option_map view_of pair.old)) in
-    let b = item_id (option_map item_of (option_map view_of pair.new)) in
+    let a = item_id (option_map item_of (option_map entry_of pair.old)) in
+    let b = item_id (option_map item_of (option_map entry_of pair.new)) in
     let refused : IsReadRefusal has a b c.loop-level.self.trees c.in-Err.refusal =
     subst (λ t. IsReadRefusal has a t c.loop-level.self.trees c.in-Err.refusal) c.id_in-new.ensures
     (subst (λ t. IsReadRefusal has t (option_map (λ i. i.now) c.id_in-new.result) c.loop-level.self.trees c.in-Err.refusal)
@@ -158,7 +158,7 @@ returns-in-Err-clause-refused g c = λ old new budget found h world w.
     (take (length c.deref-in-Some.result.now - c.in-Some.level.new_at) (drop c.in-Some.level.new_at c.deref-in-Some.result.now))
     (slice_is c.deref.result.now c.in-Some.level.old.items c.in-Some.level.old_at c.deref.ensures.value)
     (slice_is c.deref-in-Some.result.now c.in-Some.level.new.items c.in-Some.level.new_at c.deref-in-Some.ensures.value)
-    (option_map view_of pair.old) (option_map view_of pair.new) pair.old_rest.now pair.new_rest.now pair.name.now pair.directory
+    (option_map entry_of pair.old) (option_map entry_of pair.new) pair.old_rest.now pair.new_rest.now pair.name.now pair.directory
     c.in-Some-next_difference.ensures.pair (g.S.TreeSource.has_refused c.read_level.new.source) c.args.self.now.names
     c.in-Err.refusal c.if-not-pair.false refused world less
 

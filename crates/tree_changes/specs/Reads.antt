@@ -1,7 +1,7 @@
 -- What the way through two trees comes to, step by step.
 use Rattle.std.specs.Prelude.{◌≡◌, ◌<◌, ◌+◌, ◌⊎◌, ⊤, ℕ, Bool, true, false, List, [], ◌∷◌, ◌++◌, Option, Some}
 use Rattle.gix_hash_core.specs.declared.kind.Kind.{Kind}
-use Rattle.tree_objects.specs.Trees.{EntryView, IsTree}
+use Rattle.tree_objects.specs.Tree.{TreeEntry, IsTree}
 use Rattle.tree_changes.specs.Stands.{World, entries_of}
 use Rattle.tree_changes.specs.Changes.{one_if_some, IsDeeper, IsMuch, IsNeeded}
 use Rattle.tree_changes.specs.Walk.{Change, IsFoundSoFar, leaf_texts}
@@ -12,7 +12,7 @@ use Rattle.tree_changes.specs.declared.changes.Refusal.TheVariants.{TooMany, Too
 -- the bytes are those of the tree with this id, which may be none, in each world that agrees
 abbrev pub IsReadTree : Kind → (World → Type 0) → Option (List ℕ) → List ℕ → Type 0
 IsReadTree kind says id bytes =
-    (entries : List EntryView) × IsTree kind bytes entries × ((world : World) → says world → entries_of world id ≡ entries)
+    (entries : List TreeEntry) × IsTree kind bytes entries × ((world : World) → says world → entries_of world id ≡ entries)
 
 -- why it was not read: no tree may be read any more, or the source has none
 abbrev pub IsTreeReadRefusal : {E : Type 0} → (List ℕ → E → Type 0) → Option (List ℕ) → ℕ → Refusal E → Type 0
