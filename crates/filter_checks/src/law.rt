@@ -7,7 +7,8 @@ ghost use Rattle.graph_chunks.specs.GraphFilters.{FiltersOfGraph};
 ghost use Rattle.tree_changes.specs.Stands.{World};
 ghost use Rattle.tree_changes.specs.Changes.{IsChangedText};
 ghost use Rattle.path_filters.specs.Touched.{LeadsTo};
-ghost use Rattle.filter_checks.specs.RightFilters.{AreRightFilters, IsRightAt, IsComputedAt, IsAbsentAt};
+ghost use Rattle.filter_checks.specs.RightFilters.{AreRightFilters, IsRightAt};
+ghost use Rattle.filter_checks.specs.RightFilters.{IsComputedAt, IsAbsentAt};
 ghost use Rattle.filter_checks.specs.RightFilters.{root_tree_at, parent_tree_at};
 ghost use Rattle.filter_checks.specs.Refused.{IsFirstLack};
 
@@ -15,7 +16,8 @@ ghost use Rattle.filter_checks.specs.Refused.{IsFirstLack};
 /// absent, nor any below it.
 pub fn nothing_changed_at_a_path_that_a_filter_answers_as_absent()
     ensures { (world : World) (layers : List Layer) (all : FiltersOfGraph) (p : ℕ) (path : List ℕ)
-        → AreRightFilters world layers all → p < total layers → IsComputedAt all p → IsAbsentAt all p path
+        → AreRightFilters world layers all → p < total layers → IsComputedAt all p
+        → IsAbsentAt all p path
         → ¬ IsChangedText world (parent_tree_at layers p) (root_tree_at layers p) path
         × ((below : List ℕ) → LeadsTo path below
         → ¬ IsChangedText world (parent_tree_at layers p) (root_tree_at layers p) below) }

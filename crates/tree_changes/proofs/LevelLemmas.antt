@@ -179,7 +179,8 @@ module _ (kind : Kind) (says : World → Type 0) (old new : Option (List ℕ)) (
           (read : IsReadLevel kind says' (item_id (option_map item_of a)) (item_id (option_map item_of b))
           (length (take level.prefix path ++ more)) below_level)
           (more_is : more ≡ name ++ 47 ∷ [])
-          (fewer : trees' + one_if_some (item_id (option_map item_of a)) + one_if_some (item_id (option_map item_of b)) ≡ trees) where
+          (fewer : trees' + one_if_some (item_id (option_map item_of a)) + one_if_some (item_id (option_map item_of b))
+          ≡ trees) where
         abbrev below : Pending
         below = record { directories = top.p.directories ++ name ∷ []; olds = read.old_tree.0; news = read.new_tree.0 }
 

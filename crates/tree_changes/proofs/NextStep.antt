@@ -183,7 +183,8 @@ module _ (kind kind' : Kind) (same_kind : kind' ≡ kind) (says : World → Type
       tree_on says' less trees' below path' levels' n e path_is n_is levels_are read fewer =
           let whole : path' ≡ take level.prefix path ++ (name ++ 47 ∷ []) = path_is
           ∙ append_assoc (take level.prefix path) name (47 ∷ []) in
-          let read' = subst (λ x. IsReadLevel kind says' (item_id (option_map item_of a)) (item_id (option_map item_of b)) x below)
+          let read' = subst
+          (λ x. IsReadLevel kind says' (item_id (option_map item_of a)) (item_id (option_map item_of b)) x below)
           (n_is ∙ ap length whole) read in
           record {
             found_then = h.found_then ++ here ∷ [];

@@ -128,8 +128,8 @@ module _ (kind : Kind) (world : World) (olds : List TreeEntry) (old : Option Tre
       let asked = asked_itself directory name true m h.directory_is (heads m name ds h.rest h.directories_are) in
       let change : IsChange world (entries_of world (item_id (option_map item_of old))) (entries_of world (item_id (option_map
       item_of new))) (under ds c) =
-      subst (λ x. IsChange world (entries_of world (item_id (option_map item_of old))) (entries_of world (item_id (option_map item_of
-      new))) (under x c)) (tails m name ds h.rest h.directories_are) h.change in (
+      subst (λ x. IsChange world (entries_of world (item_id (option_map item_of old)))
+      (entries_of world (item_id (option_map item_of new))) (under x c)) (tails m name ds h.rest h.directories_are) h.change in (
         below_here kind world olds old old_bytes name directory a c.directory m ds c.name asked ∙ change.0,
         below_here kind world news new new_bytes name directory b c.directory m ds c.name asked ∙ change.1,
         change.2,

@@ -231,7 +231,8 @@ module _ (kind : Kind) (world : World) (old new : Option (List ℕ)) (found : Li
       rest = r;
       directories_are = refl;
       change =
-          let P : List TreeEntry → Type 0 = λ t. IsChange world t (entries_of world (item_id (option_map item_of b))) (under r d) in
+          let P : List TreeEntry → Type 0 =
+          λ t. IsChange world t (entries_of world (item_id (option_map item_of b))) (under r d) in
           let Q : List TreeEntry → Type 0 = λ t. IsChange world xs t (under r d) in
           subst P (sym xs_are) (subst Q (sym ys_are) change);
     }
