@@ -12,7 +12,8 @@ ancestor_walk_by-requires c =
     c.requires.dates.right in
     λ k. (
       (refl, tt),
-      rw c.requires.searcher c.requires.from,
-      rw c.requires.searcher c.requires.to,
-      rw (c.new-ranks.ensures, c.requires.searcher) along,
+      (
+        rw c.requires.searcher c.requires.from,
+        (rw c.requires.searcher c.requires.to, rw (c.new-ranks.ensures, c.requires.searcher) along),
+      ),
     )

@@ -12,7 +12,8 @@ is_ancestor_by-requires c =
     c.requires.dates.right in
     λ k. (
       (refl, tt),
-      rw c.requires.searcher c.requires.ancestor,
-      rw c.requires.searcher c.requires.descendant,
-      rw (c.new-ranks.ensures, c.requires.searcher) along,
+      (
+        rw c.requires.searcher c.requires.ancestor,
+        (rw c.requires.searcher c.requires.descendant, rw (c.new-ranks.ensures, c.requires.searcher) along),
+      ),
     )

@@ -1,4 +1,4 @@
-use Rattle.std.proofs.Common.{◌≡◌, ℕ, length, arith}
+use Rattle.std.proofs.Common.{◌≡◌, length, arith}
 use Rattle.graph_format.specs.StoredHistory.{history_of}
 use Rattle.gix_commitgraph.specs.Graph.{total}
 use Rattle.graph_history.proofs.dates.DateRanks.new.Goals as goal
