@@ -1,11 +1,10 @@
 """The table of commands in docs/PROGRAMS.md, and what is made of it: `python3 gate/commands.py --write` writes tables/commands, and the
-usage texts and the help of the programs, and without a word it says which are not what the table makes.
+usage texts of the programs, and without a word it says which are not what the table makes.
 """
 
 import os
 import re
 import sys
-import textwrap
 from typing import List, NamedTuple
 
 TOP = os.path.dirname(os.path.dirname(os.path.abspath(__file__)))
@@ -20,9 +19,6 @@ READS = {"": "input", " PATH": "path", " [PATH]": "optional", " [--unchecked] PA
 IDS = re.compile(r"((?: HEX)*(?:\.\.)?| \[FROM TO\])$")
 WIDTH, INDENT = 100, 4
 """The widest line of code, and how far lines of a text in it are indented."""
-
-HELP_WIDTH, HELP_INDENT = 79, 16
-"""The same of the help."""
 
 
 class Command(NamedTuple):
@@ -64,14 +60,13 @@ def main_of(program):
 
 
 def told(text, program, commands):
-    """The source of a program with the usage text and the help that these commands make. The other parts of the help stand there."""
+    """The source of a program with the usage text that these commands make, which its help begins with too."""
     usage = "usage: %s %s%s" % (program, " | ".join(command.word + command.operands for command in commands), PROGRAMS[program])
-    text = re.sub(r"(?<=^const USAGE: &str = \").*?(?=\";$)", lambda _: folded(usage, "const USAGE: &str = \"", "\";"), text, 1, re.M | re.S)
-    parts = re.search(r"^(const HELP: &str = \").*?\\n\\\n( +\\n\\\n.*?\\n\\\n +\\n\\\n).*?\\n\\\n( +\\n\\\n)", text, re.M | re.S)
-    if not parts:
-        return text
-    said = parts[1] + folded(usage, parts[1], "\\n\\") + "\\n\\\n" + parts[2] + "".join(map(item, commands)) + parts[3]
-    return text[: parts.start()] + said + text[parts.end() :]
+    for name, end in (("USAGE", "\";"), ("HELP", "\\n\\")):
+        begun = "const %s: &str = \"" % name
+        made_of_it = folded(usage, begun, end) + end + "\n"
+        text = re.sub("(?<=^%s)usage: .*?%s\\n" % (re.escape(begun), re.escape(end)), lambda _: made_of_it, text, 1, re.M | re.S)
+    return text
 
 
 def folded(text, begun, end):
@@ -84,13 +79,6 @@ def folded(text, begun, end):
         else:
             lines[-1] += added
     return " \\\n".join(lines)[len(begun) :]
-
-
-def item(command):
-    """The lines of the help on a command, in code: a line that begins with spaces has the first of them by its number."""
-    lines = textwrap.wrap(command.about, HELP_WIDTH - HELP_INDENT)
-    heads = ["%-*s" % (HELP_INDENT, command.word), *["\\x20" + " " * (HELP_INDENT - 1)] * (len(lines) - 1)]
-    return "".join("%s%s%s\\n\\\n" % (" " * INDENT, head, line) for head, line in zip(heads, lines))
 
 
 def stale(texts):

@@ -30,34 +30,44 @@ const HELP: &str = "usage: historytool is-ancestor [--unchecked] PATH HEX HEX \
     | merge PATH | --help | --version\n\
     \n\
     PATH is a commit-graph file, a folder with a chain of them, or an info folder.\n\
-    HEX is the id of a commit in hexadecimal. FROM and TO are positions, which count\n\
-    from 0: the first one, and the one after the last.\n\
+    HEX is the id of a commit in hexadecimal.\n\
     With --unchecked the graph is trusted: it is read by parts, and not checked. If it\n\
     is wrong, a yes, a walk or a merge base is still one by the parents that are there;\n\
     a no, none or a number may be wrong, and a shorter walk or a better merge base may\n\
     be there.\n\
     \n\
-    is-ancestor     say whether the first commit is an ancestor of the second\n\
-    walk            find the ids on a shortest walk from the first commit to the\n\
-    \x20               second\n\
-    merge-base      find the merge bases of the first commit and the others\n\
-    merge-base-ids  find the ids of the merge bases of the first commit and the\n\
-    \x20               others\n\
-    check           check as verify does, and then the dates and the filters\n\
-    show            show what each layer says of itself, and check the whole as\n\
-    \x20               check does\n\
-    ask             answer questions on standard input, one a line, after one check\n\
-    \x20               of the graph\n\
-    ids             list the ids of the commits, or of those at the positions from\n\
-    \x20               FROM up to TO\n\
-    objects         check that the commits on standard input are those of the graph\n\
-    write           write the commits on standard input as a layer, for the top of\n\
-    \x20               a graph or of none\n\
-    merge           write the commits of the graph as one layer, with their filters\n\
+    is-ancestor     whether the first commit is an ancestor of the second: yes or no\n\
+    walk            the ids on a shortest walk along parents from the first commit\n\
+    \x20               to the second, a line for each; or none\n\
+    merge-base      the position and the id of each merge base of the first commit\n\
+    \x20               and the others, a line for each, or none; then how many commits\n\
+    \x20               are ahead and behind: how many the first leads to and no other\n\
+    \x20               does, and the other way round; then how many were visited\n\
+    merge-base-ids  the ids of these merge bases alone, a line for each; or none\n\
+    check           what graphtool verify says of the graph; then how many commits\n\
+    \x20               have a corrected commit date, and how many a changed-path\n\
+    \x20               filter, once both were found right; or the first thing that is\n\
+    \x20               wrong\n\
+    show            what each layer says of itself, and whether the whole is right\n\
+    ask             ok commits and their number, once the graph was found right; then\n\
+    \x20               an answer for each line of standard input: find HEX,\n\
+    \x20               is-ancestor HEX HEX, walk HEX HEX, merge-base HEX HEX..,\n\
+    \x20               parents HEX, or reload, which opens PATH anew. An empty line\n\
+    \x20               ends each\n\
+    ids             the ids of the commits, a line for each, or of those at the\n\
+    \x20               positions from FROM up to and without TO, which count from 0\n\
+    objects         how many of these commits are those on standard input, which\n\
+    \x20               git cat-file --batch writes for their ids; or the first\n\
+    \x20               thing that is wrong\n\
+    write           the file of a layer with the commits on standard input, which\n\
+    \x20               git cat-file --batch writes, for the top of the graph at PATH,\n\
+    \x20               or else of none\n\
+    merge           the file of one layer with the commits of the graph, once that\n\
+    \x20               was found right, and their filters where all layers have them\n\
     \n\
-    The exit status is 0 for yes, for a graph that is right, and where something was\n\
-    found, listed, answered or written; 1 for any other answer; and 2 for wrong words,\n\
-    a text that is no id or a failed write. docs/PROGRAMS.md has what each prints.";
+    The exit status is 0 for yes, a walk, merge bases, ids, a graph that is right,\n\
+    questions that were answered or a layer, 1 for any other answer, and 2 for wrong\n\
+    words, a text that is no id or a failed write.";
 
 const VERSION: &str = "historytool 0.1.0, proved with rattle-kit-13f logic dac8208d650f15bf";
 
