@@ -11,7 +11,7 @@ use Rattle.graph_walks.specs.Counts.{greatest}
 use Rattle.graph_walks.specs.Dates.{number_at}
 use Rattle.graph_walks.specs.History.{Node, parents_at}
 use Rattle.graph_walks.proofs.GreatestLemmas.{greatest-cons}
-use Rattle.graph_bases.specs.Ranks.{FallsAlongParents, by_date}
+use Rattle.commit_search.specs.Ranks.{FallsAlongParents, by_date}
 use Rattle.commit_search.proofs.EdgeListLemmas.{contained_cases}
 use Rattle.commit_search.specs.Source.{Told}
 use Rattle.newer_commits.specs.CommitsOnTop.{AreAfterParents, CommitsOnTop, NewerCommit, end_of_top, newer_commit, nodes_on_top}

@@ -8,7 +8,7 @@ use Rattle.graph_walks.specs.Dates.{number_at}
 use Rattle.graph_walks.specs.History.{parents_at}
 use Rattle.commit_objects.specs.CommitContents.{Said, Says}
 use Rattle.commit_objects.specs.Time.{newer_time}
-use Rattle.graph_bases.specs.Ranks.{by_date}
+use Rattle.commit_search.specs.Ranks.{by_date}
 use Rattle.newer_commits.specs.CommitsOnTop.{CommitsOnTop, NewerCommit, nodes_on_top}
 
 -- The corrected dates of a base, and of newer commits on top of it, in the order of their positions.

@@ -6,7 +6,7 @@ ghost use Rattle.commit_search.specs.Positions.{numbers_of};
 ghost use Rattle.commit_search.specs.Source.{Told};
 ghost use Rattle.graph_bases.specs.Bases.{IsCommonAncestor};
 ghost use Rattle.graph_bases.specs.Comparison.{IsComparisonBy};
-ghost use Rattle.graph_bases.specs.Ranks.{FallsAlongParents, by_date};
+ghost use Rattle.commit_search.specs.Ranks.{FallsAlongParents, by_date};
 ghost use Rattle.newer_commits.specs.Adding.{AddsCommit, IsAddRefusal};
 ghost use Rattle.newer_commits.specs.CommitsOnTop.{end_of_top, nodes_on_top};
 ghost use Rattle.newer_commits.specs.JoinedDates.{AddsDate, FallOnTop, all_dates};

@@ -4,7 +4,7 @@ ghost use Rattle.std.specs.Prelude.{◌≡◌, ◌<◌, ◌++◌, ◌∷◌, [],
 ghost use Rattle.std.specs.Option.{option_map_or};
 ghost use Rattle.graph_walks.specs.Counts.{greatest};
 ghost use Rattle.graph_walks.specs.Dates.{number_at};
-ghost use Rattle.graph_bases.specs.Ranks.{by_date};
+ghost use Rattle.commit_search.specs.Ranks.{by_date};
 ghost use Rattle.newer_commits.specs.JoinedDates.{all_dates, date_after};
 
 use commit_search::CommitSource;

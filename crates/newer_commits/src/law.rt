@@ -4,7 +4,7 @@ ghost use Rattle.std.specs.Prelude.{◌≡◌, ◌↔◌, ◌+◌, ◌<◌, ◌+
 ghost use Rattle.gix_hash_core.specs.declared.kind.Kind.{Kind};
 ghost use Rattle.graph_walks.specs.History.{IsParent, Node};
 ghost use Rattle.graph_walks.specs.Walks.{CountWalks, IsWalkBetween, Reaches};
-ghost use Rattle.graph_bases.specs.Ranks.{FallsAlongParents, by_date};
+ghost use Rattle.commit_search.specs.Ranks.{FallsAlongParents, by_date};
 ghost use Rattle.graph_objects.specs.CommitWalks.{CommitsLead};
 ghost use Rattle.newer_commits.specs.Adding.{AddsCommit};
 ghost use Rattle.newer_commits.specs.CommitsOf.{AnswersOnce, AreCommitsOf, newer_id};

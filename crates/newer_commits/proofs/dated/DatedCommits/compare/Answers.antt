@@ -4,7 +4,7 @@ use Rattle.commit_search.specs.Positions.{numbers_of}
 use Rattle.graph_format.specs.declared.Position.{Position}
 use Rattle.graph_bases.specs.Bases.{IsCommonAncestor}
 use Rattle.graph_bases.specs.Comparison.{IsComparisonBy}
-use Rattle.graph_bases.specs.Ranks.{FallsAlongParents, by_date}
+use Rattle.commit_search.specs.Ranks.{FallsAlongParents, by_date}
 use Rattle.newer_commits.specs.CommitsOnTop.{CommitsOnTop, end_of_top, nodes_on_top}
 use Rattle.newer_commits.specs.JoinedDates.{all_dates}
 use Rattle.newer_commits.specs.JoinedHistory.{joined_history, joined_with}
