@@ -55,9 +55,9 @@ module _ (layers : List Layer) (right : IsRightThroughout layers) where
             absurd (none-some fault (sym (ap graph_dates_refusal same ∙ right.dates stored) ∙ wrong))
         | inr memory ↦ memory.0
       ]
-  refused (Filters fault) (found, opened, sound, dates, has_dates, may) =
+  refused (Filters fault) (found, opened, sound, chunks) =
       let same : found ≡ layers = cc in
-      elim may [
+      elim chunks.2 [
         | inl wrong ↦ absurd (none-some fault (sym (ap graph_filters_refusal same ∙ right.filters) ∙ wrong))
         | inr memory ↦ memory.0
       ]
