@@ -11,8 +11,6 @@ mod examples;
 #[cfg(test)]
 mod fixtures;
 #[cfg(test)]
-mod newer;
-#[cfg(test)]
 mod pushing;
 #[cfg(test)]
 mod texts;

@@ -108,17 +108,18 @@ def opened_anew(histories, folder, lower):
     started = time.monotonic()
     with Asking([histories.path, "ask", folder]) as run:
         told = [run.answer()]
-        checked = time.monotonic() - started
-        trees.lay_out(folder, chains[1])
-        started = time.monotonic()
-        told.append(run.ask("reload"))
-        anew = time.monotonic() - started
+        checked, anew = time.monotonic() - started, []
+        for chain in (chains[1], chains[0], chains[1]):
+            trees.lay_out(folder, chain)
+            started = time.monotonic()
+            told.append(run.ask("reload"))
+            anew.append(time.monotonic() - started)
         told += [run.ask("find " + "44" * 20), run.end()]
     opened = "ok commits %d\n\n" % (COUNT + 1)
-    right = [opened, opened, "position %d generation 1 time 7\n\n" % COUNT, 0]
+    right = [opened] * 4 + ["position %d generation 1 time 7\n\n" % COUNT, 0]
     if told != right:
         return "it tells %r" % told
-    return None if anew < checked else "%.2f s, and the first check %.2f s" % (anew, checked)
+    return None if min(anew) < checked else "%.2f s, and the first check %.2f s" % (min(anew), checked)
 
 
 def walks(histories, path):
