@@ -1,5 +1,6 @@
 //! Borrowed ids.
-ghost use Rattle.std.specs.Prelude.{◌≡◌, ◌↔◌, IsTrue, IsSome, IfSome, length, slice_index, All};
+ghost use Rattle.std.specs.Prelude.{◌≡◌, ◌↔◌, ◌<◌, ◌≤◌, ℕ, IsTrue, IsSome, IfSome, length, All};
+ghost use Rattle.std.specs.Prelude.{slice_index};
 ghost use Rattle.std.specs.Prelude.{Some};
 ghost use Rattle.hex.specs.Hex.{encode_lower};
 ghost use Rattle.gix_hash_core.specs.Kind.{id_len, is_id_len};
@@ -20,7 +21,7 @@ pub struct oid<'a> {
 }
 
 impl<'a> oid<'a> {
-    ghost use Rattle.gix_hash_core.specs.Oid.{oid_bytes};
+    ghost use Rattle.gix_hash_core.specs.Oid.{front_of, oid_bytes};
 
     /// The id of these bytes, or `None` where they are neither 20 nor 32.
     pub fn try_from_bytes(bytes: &'a [u8]) -> Option<oid<'a>>
@@ -74,9 +75,13 @@ impl<'a> oid<'a> {
         self.front() == 0 && self.bytes.iter().all(|byte| *byte == 0)
     }
 
-    /// The number that the id's first eight bytes make. It is hardly ever 0.
-    fn front(self) -> u64
-        ensures { All (λ byte. byte ≡ 0) (oid_bytes self.entry) → result ≡ 0 }
+    /// The number that the id's first eight bytes make, the first byte the highest. Two ids hardly
+    /// ever have one front, unless someone made them so.
+    pub fn front(self) -> u64
+        ensures front { result ≡ front_of (oid_bytes self.entry) }
+        ensures null { All (λ byte. byte ≡ 0) (oid_bytes self.entry) → result ≡ 0 }
+        ensures long { 8 ≤ length (oid_bytes self.entry) }
+        ensures bytes { (k : ℕ) → slice_index (oid_bytes self.entry) k < 256 }
     {
         let id = self.bytes;
         u64::from_be_bytes([id[0], id[1], id[2], id[3], id[4], id[5], id[6], id[7]])

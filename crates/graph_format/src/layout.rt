@@ -95,7 +95,7 @@ pub fn find_chunk(bytes: &[u8], id: [u8; 4]) -> Option<ChunkRange>
     requires { refusal bytes.now ≡ None }
     ensures { IsChunkRange bytes.now id result }
 {
-    match Index::from_bytes(bytes, HEADER_LEN, bytes[6] as u32) {
+    match Index::from_bytes(bytes, HEADER_LEN, bytes[CHUNK_COUNT_AT] as u32) {
         Ok(index) => chunk_range(bytes, bytes.len(), &index, id),
         Err(_) => unreachable!(),
     }

@@ -1,14 +1,9 @@
 //! Where a commit may stand in the order of ids. Nothing is promised of that: what is found there
 //! is compared with the whole id.
 
-ghost use Rattle.std.specs.Prelude.{◌≡◌, ◌<◌, ◌≤◌, ℕ, length, slice_index};
-ghost use Rattle.gix_commitgraph.specs.Fronts.{front_of};
-ghost use Rattle.gix_hash_core.specs.Oid.{oid_bytes};
-
 use crate::handed::Handed;
 use crate::order::FrontPlace;
 use crate::view::CommitView;
-use gix_hash_core::oid;
 use std::alloc::{AllocError, Global};
 
 /// About how many ids share a start.
@@ -16,17 +11,6 @@ const IDS_EACH: usize = 2;
 
 /// How many tips are looked at from a start on. More than these hardly ever share one.
 const MOST_EACH: usize = 8;
-
-/// The number that the first eight bytes of an id make. Two ids hardly ever have one front, unless
-/// someone made them so.
-pub(crate) fn front(id: oid<'_>) -> u64
-    ensures front { result ≡ front_of (oid_bytes id.entry) }
-    ensures long { 8 ≤ length (oid_bytes id.entry) }
-    ensures bytes { (k : ℕ) → slice_index (oid_bytes id.entry) k < 256 }
-{
-    let id = id.as_bytes();
-    u64::from_be_bytes([id[0], id[1], id[2], id[3], id[4], id[5], id[6], id[7]])
-}
 
 /// The tips of ids in their order, and where to begin to look for one. They take four bytes each,
 /// so that a search needs few lines of the processor's cache.
@@ -178,7 +162,7 @@ fn push_fronts<C: CommitView>(
     if number < commits.len() {
         let commit = commits.at(number);
         for parent in 0..commit.parent_count() {
-            fronts.push(front(commit.parent(parent)))?;
+            fronts.push(commit.parent(parent).front())?;
         }
     }
     Ok(())
@@ -189,7 +173,7 @@ fn front_at<C: CommitView>(commits: &Handed<'_, C>, order: &[usize], place: u32)
     match order.get(place as usize) {
         Some(number) if *number < commits.len() => {
             let commit = commits.at(*number);
-            front(commit.id())
+            commit.id().front()
         }
         _ => 0,
     }

@@ -44,6 +44,9 @@ fn compare_other_bytes(rt: &impl Abort) {
 /// Bytes of which the first ones are ids.
 const LETTERS: &[u8; 40] = b"abcdefghijklmnopqrstuvwxyz0123456789ABCD";
 
+/// The number that the first eight of them make, as Python's `int.from_bytes(b"abcdefgh", "big")`.
+const FRONT: u64 = 0x6162_6364_6566_6768;
+
 /// The kind of an id of this length.
 fn kind_of(len: usize) -> Option<Kind> {
     match len {
@@ -59,6 +62,7 @@ fn compare_lent(rt: &impl Abort, bytes: &[u8]) {
     assert!(rt; id.map(|id| id.kind()) == kind_of(bytes.len()));
     if let Some(id) = id {
         assert!(rt; id.as_bytes() == bytes && id.first_byte() == b'a');
+        assert!(rt; id.front() == FRONT);
         assert!(rt; !id.is_null());
         let owned = id.to_owned();
         assert!(rt; owned.as_oid() == id && owned.as_oid().as_bytes() == bytes);

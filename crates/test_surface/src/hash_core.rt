@@ -48,6 +48,10 @@ fn first_byte(id: oid<'_>) -> u8 {
     oid::first_byte(id)
 }
 
+fn front(id: oid<'_>) -> u64 {
+    oid::front(id)
+}
+
 fn is_null(id: oid<'_>) -> bool {
     oid::is_null(id)
 }

@@ -16,7 +16,8 @@ use Rattle.std.proofs.lemmas.Option.{slice_get_within, get_or_from_slice_get, sl
 use Rattle.graph_format.specs.Layer.{Layer}
 use Rattle.gix_commitgraph.specs.Graph.{graph_ids}
 use Rattle.gix_commitgraph.specs.Distinct.{AreDistinct}
-use Rattle.gix_commitgraph.specs.Fronts.{front_of, HaveDistinctFronts}
+use Rattle.gix_commitgraph.specs.Fronts.{HaveDistinctFronts}
+use Rattle.gix_hash_core.specs.Oid.{front_of}
 
 -- each number is below the next
 abbrev pub Rise : List ℕ → Type 0

@@ -5,9 +5,8 @@
 //! time that grows with the number of layers.
 
 ghost use Rattle.std.specs.Prelude.{◌≡◌, ◌^◌, ◌<◌, length, IfOk, IsTrue};
-ghost use Rattle.gix_hash_core.specs.Oid.{oid_bytes};
 ghost use Rattle.gix_commitgraph.specs.IdPlaces.{ComesBeforeRepeats};
-ghost use Rattle.gix_commitgraph.specs.Fronts.{front_of, HaveDistinctFronts};
+ghost use Rattle.gix_commitgraph.specs.Fronts.{HaveDistinctFronts};
 ghost use Rattle.gix_commitgraph.specs.Graph.{total};
 
 use crate::Position;
@@ -63,7 +62,7 @@ impl Graph {
         let mut fronts = Vec::new(alloc);
         fronts.reserve(self.num_commits() as usize)?;
         for id in self.iter_ids() {
-            fronts.push(front(id))?;
+            fronts.push(id.front())?;
         }
         fronts.sort()?;
         Ok(fronts.is_sorted_by(|front, next| front < next))
@@ -89,14 +88,6 @@ impl Graph {
         }
         Ok(places)
     }
-}
-
-/// The number that the first eight bytes of an id make.
-fn front(id: oid<'_>) -> u64
-    ensures { result ≡ front_of (oid_bytes id.entry) }
-{
-    let id = id.as_bytes();
-    u64::from_be_bytes([id[0], id[1], id[2], id[3], id[4], id[5], id[6], id[7]])
 }
 
 /// The least position of a place whose id is that of the place before it, and else the number of

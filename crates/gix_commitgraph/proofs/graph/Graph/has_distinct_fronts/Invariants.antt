@@ -1,6 +1,6 @@
 use Rattle.std.proofs.Common.{◌≡◌, ◌++◌}
 use Rattle.std.specs.Prelude.{map}
-use Rattle.gix_commitgraph.specs.Fronts.{front_of}
+use Rattle.gix_hash_core.specs.Oid.{front_of}
 use Rattle.gix_commitgraph.specs.Graph.{graph_ids}
 use Rattle.gix_commitgraph.specs.GraphRemaining.{graph_ids_left}
 use Rattle.gix_commitgraph.proofs.graph.Graph.has_distinct_fronts.Given as goal

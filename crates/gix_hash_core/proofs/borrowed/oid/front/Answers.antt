@@ -2,8 +2,8 @@ use Rattle.std.proofs.Common.{◌≤◌, length, arith}
 use Rattle.std.proofs.lemmas.Grind.{common_steps}
 use Rattle.gix_hash_core.proofs.borrowed.oid.front.Goals as goal
 
-pub returns : goal.returns
-returns c = λ null.
+pub returns-clause-null : goal.returns-clause-null
+returns-clause-null c = λ null.
     let long : 8 ≤ length c.args.self.bytes.now = grind (arith, common_steps, c.args.self.sized) in
     omega (
       arith,
