@@ -7,6 +7,7 @@ use Rattle.std.proofs.lemmas.Option.{slice_get-get_or}
 use Rattle.std.proofs.lemmas.List.Elements.{All-contains}
 use Rattle.graph_walks.specs.Counts.{greatest}
 use Rattle.graph_walks.specs.History.{Node, IsParent, parents_at}
+use Rattle.graph_walks.specs.Walks.{IsProperAncestor}
 use Rattle.graph_walks.proofs.GreatestLemmas.{greatest_bounds}
 use Rattle.graph_walks.proofs.WalkPathLemmas.{Path, path_from_between}
 use Rattle.graph_levels.specs.declared.level.Level.{Level}
@@ -24,6 +25,19 @@ stays_below : (h : List Node) (base p q : ℕ) (rest : List ℕ) → AreClosedBe
 stays_below h base p q [] closed w lt = subst (λ (n : ℕ). n < base) w.0 lt
 stays_below h base p q (y ∷ rest) closed w lt =
     stays_below h base y q rest closed w.1 (All-contains (λ n. n < base) (parents_at h p) y (closed p lt) w.0.2)
+
+-- a walk of more than one commit begins at a commit
+begins_within : (h : List Node) (p q : ℕ) (rest : List ℕ) → Path h p q rest → 1 ≤ length rest → p < length h
+begins_within h p q [] w long = absurd (omega (arith, long))
+begins_within h p q (y ∷ rest) w long = w.0.0
+
+-- past the last commit there is none
+pub no_cycle_past_all : (h : List Node) (base p : ℕ) → length h ≡ base → base ≤ p → ¬ IsProperAncestor h p p
+no_cycle_past_all h base p as_many le (walk, between, long) =
+    let path = path_from_between h p p walk between in
+    let size = ap length path.1 in
+    let within = begins_within h p p path.0 path.2 (omega (arith, size, long)) in
+    absurd (omega (arith, within, as_many))
 
 module _ (below : List Level) (parents : ParentLists) (times : List ℕ) (states : List State) (stack : List Frame)
     (own : List Level)

@@ -3,7 +3,7 @@
 //! their levels already.
 
 ghost use Rattle.std.specs.Prelude.{◌≡◌, ◌<◌, ◌≤◌, ◌+◌, ◌^◌, ℕ, List, length, All, Contains};
-ghost use Rattle.std.specs.Prelude.{IfOk, IfErr, OnOk, IfSome, IfNone, slice_index};
+ghost use Rattle.std.specs.Prelude.{IfOk, IfErr, IsErrOf, OnOk, IfSome, IfNone, slice_index};
 ghost use Rattle.std.specs.Prelude.{true, false, slice_index_or, slice_get, Some, ◌-◌};
 ghost use Rattle.graph_walks.specs.History.{Node};
 ghost use Rattle.graph_walks.specs.Generations.{AreLocal};
@@ -355,7 +355,7 @@ fn visits_of<'a>(
 /// # Errors
 ///
 /// `Cycle` with a new commit that is its own proper ancestor, where there is one, or `OutOfMemory`
-/// where an allocation failed.
+/// where an allocation failed. Where there are no new commits, nothing is allocated.
 pub fn levels(
     alloc: Global,
     below: &[Level],
@@ -379,7 +379,11 @@ pub fn levels(
         → AreClosedBelow history (length below.now)
         → HasNoCycleOnTop history (length below.now)) }
     ensures cycle { IfErr result (IsLevelsRefusal (length below.now) parents.now) }
+    ensures memory { IsErrOf result LevelsError.OutOfMemory → 0 < commit_count parents.now }
 {
+    if times.is_empty() {
+        return Ok(Vec::new(alloc));
+    }
     let mut search = Search {
         below,
         parents,

@@ -1,10 +1,10 @@
-use Rattle.std.proofs.Common.{ℕ, List, get_or, length, subst, arith}
+use Rattle.std.proofs.Common.{◌≡◌, ℕ, List, get_or, length, subst, arith, rules}
 use Rattle.graph_levels.specs.declared.level.Level.{Level}
 use Rattle.graph_levels.specs.declared.lists.ParentLists.{ParentLists}
 use Rattle.graph_levels.specs.OnTop.{no_level}
 use Rattle.graph_levels.specs.SearchStates.{IsSearch}
 use Rattle.graph_levels.proofs.LevelLemmas.{all_local, all_right}
-use Rattle.graph_levels.proofs.AcyclicLemmas.{no_cycle_on_top}
+use Rattle.graph_levels.proofs.AcyclicLemmas.{no_cycle_on_top, no_cycle_past_all}
 use Rattle.graph_levels.proofs.search.levels.Goals as goal
 
 pub returns-clause-bounds : goal.returns-clause-bounds
@@ -52,3 +52,8 @@ returns-clause-acyclic c h on_top closed =
     no_cycle_on_top c.args.below.now c.args.parents.now c.args.times.now s.states.items s.stack.items
     c.in_ok-found.field-0.items search
     c.in_ok-found.ensures.each h on_top closed
+
+pub returns-then-is_empty-clause-acyclic : goal.returns-then-is_empty-clause-acyclic
+returns-then-is_empty-clause-acyclic c h on_top closed p =
+    let none : length c.args.times.now ≡ 0 = search rules in
+    no_cycle_past_all h (length c.args.below.now) p (omega (arith, on_top.as_many, c.requires.timed, none))
