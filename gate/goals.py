@@ -7,9 +7,17 @@ PROVED = "proved"
 GOAL = re.compile(r"note: src/\S+:\d+:\d+: (it is not proved|`search` found no proof)")
 GOAL_NAME = re.compile(r"\(`([^`]+)`\)")
 GAVE_UP = "`search` gave up at one of its limits"
-ERROR = re.compile(r"(?:\./)?(proofs/(\S+)/\w+\.antt):(\d+):\d+: error: (.*)")
+LIMIT = "stopped at its own limit"
+"""What an error says of a search in a proof that gave up."""
+
+ERROR = re.compile(r"(?:\./)?(proofs/(\S+)/\w+\.antt):(\d+):\d+: error: (.*(?:\n +.*)*)")
+"""An error, with the lines below it that are set in: these say more of it."""
+
 STALE = re.compile(r"has no field|is not in scope|has no `|was not admitted")
 """What an error says where a proof names what an edit took away."""
+
+WAITING = re.compile(r"depends on .*, which was rejected")
+"""What it says of a definition that rests on another one, of which an error tells, too."""
 
 ANSWER = re.compile(r"(?:abbrev )?(?:pub )?([A-Za-z][\w-]*)")
 """The beginning of the first line of a definition in a proof file; an answer has the name of its goal."""
@@ -31,7 +39,7 @@ class Verdict:
     """What a check says of one function: whether it is there and proved, and the clauses of goals that are not.
 
     Of some goals the prover says that it found no proof, or that one that a file has is wrong: these it refuses. At others
-    it gave up. A proof is stale where it names what an edit took away.
+    it, or a search in a file's proof, gave up. A proof is stale where it names what an edit took away.
     """
 
     def __init__(self, crate, function, output, read):
@@ -39,9 +47,11 @@ class Verdict:
         self.is_there, self.is_proved = said is not None, said == PROVED
         goals = list(filter(GOAL.match, own))
         errors = [found for found in ERROR.findall(output) if found[1] == function.replace("::", "/")]
-        wrong = [answered(read(path), int(line)) for path, _, line, told in errors if not STALE.search(told)]
+        told = [(answered(read(path), int(line)), text) for path, _, line, text in errors if not WAITING.search(text)]
+        stopped = [goal for goal, text in told if LIMIT in text]
+        wrong = [goal for goal, text in told if LIMIT not in text and not STALE.search(text)]
         self.refused = clauses([name_of(goal) for goal in goals if GAVE_UP not in goal] + wrong)
-        self.given_up = clauses(name_of(goal) for goal in goals if GAVE_UP in goal)
+        self.given_up = clauses([name_of(goal) for goal in goals if GAVE_UP in goal] + stopped)
         self.is_stale = bool(errors)
 
 
