@@ -14,6 +14,7 @@ use Rattle.c_opening.specs.KnownPaths.{is_known_file, known_at, known_tree}
 use Rattle.c_opening.specs.declared.at_path.Unopened.{Unopened}
 use Rattle.c_opening.specs.declared.at_path.Unopened.TheVariants as unopened
 use Rattle.c_opening.specs.declared.known.CgKnown.{CgKnown}
+use Rattle.c_opening.specs.declared.known.TheConstants.{FOLDER, NO_MEMORY, NOTHING}
 
 -- what keeps a graph from being opened: a path whose file was not read, or of which nothing is known; or else an error, with the
 -- path of the file that it is about
@@ -59,7 +60,7 @@ chain_answer tree folder =
 -- whether nothing else is tried where a file was not read: nothing is known of its path, or there was no memory for its bytes
 abbrev pub ends_all : Option CgKnown → Bool
 ends_all None = true
-ends_all (Some k) = k.kind == 5
+ends_all (Some k) = k.kind == NO_MEMORY
 
 -- the answer of an info folder's file; or where that is refused, of its chain folder
 abbrev pub or_chain : List CgKnown → KnownAnswer → KnownAnswer → KnownAnswer
@@ -81,8 +82,8 @@ folder_answer known path (Some chain) =
 unfoldable pub path_answer : List CgKnown → List ℕ → Option CgKnown → KnownAnswer
 path_answer known path None = Err (UnreadPath path)
 path_answer known path (Some there) =
-    if there.kind == 0 then Err (ByError opening.NothingFound [])
-    else (if there.kind == 2 then folder_answer known path (known_at known (chain_path path))
+    if there.kind == NOTHING then Err (ByError opening.NothingFound [])
+    else (if there.kind == FOLDER then folder_answer known path (known_at known (chain_path path))
     else file_answer (known_tree known) path)
 
 -- of a file (1), a chain folder (2), an info folder (3), or what stands at the path

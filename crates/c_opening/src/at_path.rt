@@ -17,7 +17,8 @@ ghost use Rattle.c_opening.specs.KnownOpening.{chain_answer, file_answer, first_
 ghost use Rattle.c_opening.specs.KnownOpening.{folder_answer, info_answer, is_final, known_opened};
 ghost use Rattle.c_opening.specs.KnownOpening.{layer_files, path_answer, refused_file};
 
-use crate::known::{CgKnown, KnownFiles, find, is_known_file, is_read, read_bytes};
+use crate::known::{CgKnown, FOLDER, KnownFiles, NO_MEMORY, NOTHING, find, is_known_file, is_read};
+use crate::known::read_bytes;
 use gix_commitgraph::opening::path::{chain_path, info_chain_path, info_file_path, layer_path};
 use gix_commitgraph::opening::{OpenError, open_chain_dir_in, open_file_in};
 use gix_commitgraph::{FileError, Graph};
@@ -80,10 +81,10 @@ fn open_any(alloc: Global, known: &[CgKnown<'_>], path: &str) -> Result<Graph, U
     let Some(there) = find(known, path.as_bytes()) else {
         return Err(Unopened::Unread(String::from_str(alloc, path)?));
     };
-    if there.kind == 0 {
+    if there.kind == NOTHING {
         return Err(Unopened::Refused(OpenError::NothingFound, String::new(alloc)));
     }
-    if there.kind == 2 {
+    if there.kind == FOLDER {
         return open_folder(alloc, known, path);
     }
     open_file(alloc, known, path)
@@ -136,7 +137,7 @@ fn is_final(known: &[CgKnown<'_>], answer: &Result<Graph, Unopened>) -> bool
     match answer {
         Ok(_) | Err(Unopened::NoMemory) => true,
         Err(Unopened::Unread(path)) => match find(known, path.as_bytes()) {
-            Some(there) => there.kind == 5,
+            Some(there) => there.kind == NO_MEMORY,
             None => true,
         },
         Err(Unopened::Refused(..)) => false,

@@ -7,6 +7,21 @@ ghost use Rattle.c_opening.specs.KnownPaths.{is_known_file, known_at, known_tree
 use graph_folder::folder::{Folder, ReadError};
 use std::alloc::{AllocError, Global};
 
+/// Nothing stands at the path.
+pub(crate) const NOTHING: u32 = 0;
+
+/// A file that was read.
+const READ: u32 = 1;
+
+/// A folder.
+pub(crate) const FOLDER: u32 = 2;
+
+/// A file of which a read failed.
+pub(crate) const UNREAD: u32 = 4;
+
+/// A file that found no memory.
+pub(crate) const NO_MEMORY: u32 = 5;
+
 /// What stands at a path: for C two pointers, each with a length, and a number.
 #[repr(C)]
 #[derive(Clone, Copy)]
@@ -14,8 +29,7 @@ pub struct CgKnown<'a> {
     pub path: &'a [u8],
     /// The bytes of a file that was read.
     pub bytes: &'a [u8],
-    /// 0 where nothing stands there, 1 for a file that was read, 2 for a folder, 3 for a file that
-    /// could not be opened, 4 for one of which a read failed, and 5 for one that found no memory.
+    /// What it is, by its number; any that is not named stands for a file that could not be opened.
     pub kind: u32,
 }
 
@@ -30,7 +44,7 @@ pub(crate) fn find<'k, 'a>(known: &'k [CgKnown<'a>], path: &[u8]) -> Option<&'k 
 pub(crate) fn is_known_file(known: &CgKnown<'_>) -> bool
     ensures { result ≡ is_known_file known.now }
 {
-    known.kind != 0 && known.kind != 2
+    known.kind != NOTHING && known.kind != FOLDER
 }
 
 /// The bytes of the file at a path, if it was read.
@@ -39,7 +53,7 @@ pub(crate) fn read_bytes<'a>(known: &[CgKnown<'a>], path: &[u8]) -> Option<&'a [
     ensures { option_copied result ≡ file_at (known_tree known.now) path.now }
 {
     let there = find(known, path)?;
-    if there.kind == 1 {
+    if there.kind == READ {
         Some(there.bytes)
     } else {
         None

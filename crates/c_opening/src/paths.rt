@@ -14,7 +14,7 @@ ghost use Rattle.c_opening.specs.KnownOpening.{AnswersAs, known_opened};
 use crate::at_path::{Unopened, open_as};
 use crate::codes::{PATH_NOT_UTF8, PATH_WANTED, open_code};
 use crate::handle::CgOwner;
-use crate::known::{CgKnown, find};
+use crate::known::{CgKnown, NO_MEMORY, UNREAD, find};
 use crate::open::boxed;
 use crate::opened::Opened;
 use gix_commitgraph::GraphError;
@@ -129,8 +129,8 @@ fn unread(kind: u32) -> OpenError
     ensures { result ≡ unread kind }
 {
     match kind {
-        4 => OpenError::Device,
-        5 => OpenError::OutOfMemory,
+        UNREAD => OpenError::Device,
+        NO_MEMORY => OpenError::OutOfMemory,
         _ => OpenError::NotOpened,
     }
 }
