@@ -131,7 +131,7 @@ fn kind_of_first<C: CommitView>(commits: &Handed<'_, C>) -> Kind
 }
 
 /// Refuses the first commit whose id the graph below has, if there is a graph.
-#[tactic(auto, using(crate::proofs::RefusalSteps::none_below))]
+#[tactic(auto, using(crate::proofs::layers::RefusalSteps::none_below))]
 fn check_all_new<C: CommitView>(
     below: Option<&Checked<'_>>,
     commits: &Handed<'_, C>,

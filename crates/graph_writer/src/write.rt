@@ -103,7 +103,7 @@ pub fn write_layer_of<C: CommitView>(
 }
 
 /// The bytes of a layer with these commits and with these changed-path filters, if there are any.
-#[tactic(auto, using(crate::proofs::RefusalSteps::memory_laws))]
+#[tactic(auto, using(crate::proofs::layers::RefusalSteps::memory_laws))]
 fn write_handed<C: CommitView>(
     alloc: Global,
     below: Option<&Checked<'_>>,

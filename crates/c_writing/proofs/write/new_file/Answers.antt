@@ -4,7 +4,7 @@ use Rattle.graph_writer.specs.NewCommits.{layers_of_below}
 use Rattle.graph_writer.specs.WriteRefusal.{new_layer_refusal}
 use Rattle.graph_writer.specs.WrittenFiles.{IsWritten}
 use Rattle.graph_writer.specs.declared.commit.WriteError.TheVariants as error
-use Rattle.graph_writer.proofs.RefusalSteps.{plain-none}
+use Rattle.graph_writer.proofs.layers.RefusalSteps.{plain-none}
 use Rattle.c_writing.specs.HandedIn.{AreHandedIn}
 use Rattle.c_writing.specs.SaidCommits.{said}
 use Rattle.c_writing.specs.ToldWrite.{IsFileFrom, RefusesCommits, told_write}

@@ -1,5 +1,5 @@
 use Rattle.std.proofs.Common.{arith}
-use Rattle.graph_writer.proofs.ThreeNumbers.{three-fit}
+use Rattle.graph_writer.proofs.plans.ThreeNumbers.{three-fit}
 use Rattle.graph_writer.proofs.filters.numbers_of.Goals as goal
 
 pub returns-clause-fit : goal.returns-clause-fit

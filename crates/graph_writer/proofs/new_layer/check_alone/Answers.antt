@@ -6,7 +6,7 @@ use Rattle.graph_format.specs.Layer.{Layer}
 use Rattle.graph_writer.specs.NewCommits.{layers_of_below}
 use Rattle.graph_writer.specs.WriteRefusal.{own_refusal_at}
 use Rattle.graph_writer.specs.declared.commit.WriteError.TheVariants as error
-use Rattle.graph_writer.proofs.RefusalSteps.{own_fault, plain-first, plain-last}
+use Rattle.graph_writer.proofs.layers.RefusalSteps.{own_fault, plain-first, plain-last}
 use Rattle.graph_writer.proofs.new_layer.check_alone.Goals as goal
 
 pub returns-in_err-check_each : goal.returns-in_err-check_each

@@ -2,7 +2,7 @@ use Rattle.std.proofs.Common.{List, sym, ap, ◌∙◌}
 use Rattle.graph_format.specs.Layer.{Layer}
 use Rattle.graph_writer.specs.NewCommits.{layers_of_below}
 use Rattle.graph_writer.specs.WriteRefusal.{kind_to_write}
-use Rattle.graph_writer.proofs.RefusalSteps.{kind_of_layers}
+use Rattle.graph_writer.proofs.layers.RefusalSteps.{kind_of_layers}
 use Rattle.graph_writer.proofs.new_layer.kind_to_write.Goals as goal
 
 pub returns-in-Some : goal.returns-in-Some

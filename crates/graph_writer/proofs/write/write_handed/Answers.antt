@@ -26,12 +26,12 @@ use Rattle.graph_writer.specs.declared.commit.NewCommit.{NewCommit}
 use Rattle.graph_writer.specs.declared.filters.NewFilters.{NewFilters}
 use Rattle.graph_writer.specs.declared.levels_below.LevelsBelow.{LevelsBelow}
 use Rattle.graph_writer.specs.declared.new_layer.NewLayer.{NewLayer}
-use Rattle.graph_writer.proofs.AcyclicSteps.{acyclic}
-use Rattle.graph_writer.proofs.FitSteps.{fit-together}
-use Rattle.graph_writer.proofs.ReasonSteps.{refused-new, refused-dates, refused-levels, refused-layers}
-use Rattle.graph_writer.proofs.ReasonSteps.{refused-edges}
-use Rattle.graph_writer.proofs.ViewSteps.{few-words, many-words, view-fits, view-written}
-use Rattle.graph_writer.proofs.FilteredSteps.{kept-fit, mixed}
+use Rattle.graph_writer.proofs.levels.AcyclicSteps.{acyclic}
+use Rattle.graph_writer.proofs.levels.FitSteps.{fit-together}
+use Rattle.graph_writer.proofs.layers.ReasonSteps.{refused-new, refused-dates, refused-levels, refused-layers}
+use Rattle.graph_writer.proofs.layers.ReasonSteps.{refused-edges}
+use Rattle.graph_writer.proofs.plans.ViewSteps.{few-words, many-words, view-fits, view-written}
+use Rattle.graph_writer.proofs.filter_lists.FilteredSteps.{kept-fit, mixed}
 use Rattle.graph_writer.proofs.write.write_handed.Goals as goal
 
 -- a list that may be missing

@@ -1,5 +1,5 @@
 use Rattle.std.proofs.Common.{◌+◌, ℕ, length, ap, ◌∙◌, arith}
-use Rattle.graph_writer.proofs.SortedFilters.{sizes-mixed, size-next, few-bytes, more-filters}
+use Rattle.graph_writer.proofs.filter_lists.SortedFilters.{sizes-mixed, size-next, few-bytes, more-filters}
 use Rattle.graph_writer.proofs.filters.NewFilters.in_order.Goals as goal
 
 pub loop-number-init : goal.loop-number-init

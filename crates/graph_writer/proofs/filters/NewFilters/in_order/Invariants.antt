@@ -2,7 +2,7 @@
 use Rattle.std.proofs.Common.{◌≡◌, ◌+◌, ◌<◌, ℕ, Some, drop, slice_get}
 use Rattle.std.specs.List.{sum_by}
 use Rattle.graph_writer.specs.NewFilters.{filter_numbers, filter_count, byte_count, new_filter}
-use Rattle.graph_writer.proofs.SortedFilters.{size_of}
+use Rattle.graph_writer.proofs.filter_lists.SortedFilters.{size_of}
 use Rattle.graph_writer.proofs.filters.NewFilters.in_order.Given as goal
 
 abbrev pub invariant-loop-number : goal.invariant-loop-number

@@ -3,7 +3,7 @@ use Rattle.graph_format.specs.Layer.{Layer}
 use Rattle.graph_writer.specs.LevelsBelow.{AreLevelsBelow}
 use Rattle.graph_writer.specs.NewCommits.{layers_of_below}
 use Rattle.graph_writer.specs.declared.levels_below.LevelsBelow.{LevelsBelow}
-use Rattle.graph_writer.proofs.FitSteps.{no-levels}
+use Rattle.graph_writer.proofs.levels.FitSteps.{no-levels}
 use Rattle.graph_writer.proofs.levels_below.LevelsBelow.of.Goals as goal
 
 pub returns-in-None-clause-levels : goal.returns-in-None-clause-levels

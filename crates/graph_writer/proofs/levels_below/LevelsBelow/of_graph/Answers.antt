@@ -6,7 +6,7 @@ use Rattle.graph_format.specs.StoredHistory.{history_of}
 use Rattle.graph_chunks.specs.GraphDates.{graph_dates_refusal}
 use Rattle.graph_format.specs.OptionalChunks.{HasDates}
 use Rattle.graph_chunks.specs.GraphStoredDates.{times_of, dates_of}
-use Rattle.graph_writer.proofs.FitSteps.{graph-levels}
+use Rattle.graph_writer.proofs.levels.FitSteps.{graph-levels}
 use Rattle.graph_writer.proofs.levels_below.LevelsBelow.of_graph.Goals as goal
 
 pub returns-clause-levels : goal.returns-clause-levels

@@ -11,9 +11,10 @@ use Rattle.graph_writer.specs.NewLayers.{ids_in_order, times_in_order}
 use Rattle.graph_writer.specs.SortedPlaces.{IsOrder}
 use Rattle.graph_writer.specs.declared.commit.NewCommit.{NewCommit}
 use Rattle.graph_writer.specs.declared.new_layer.NewLayer.{NewLayer}
-use Rattle.graph_writer.proofs.NewLayerSteps.{new-layer}
-use Rattle.graph_writer.proofs.RefusalSteps.{own_fault, refused-plain, refused-twice, refused-below, refused-many, refused-later}
-use Rattle.graph_writer.proofs.RefusalSteps.{refused-parent, refused-nothing, plain-own, plain-some}
+use Rattle.graph_writer.proofs.layers.NewLayerSteps.{new-layer}
+use Rattle.graph_writer.proofs.layers.RefusalSteps.{own_fault, refused-plain, refused-twice, refused-below, refused-many}
+use Rattle.graph_writer.proofs.layers.RefusalSteps.{refused-later}
+use Rattle.graph_writer.proofs.layers.RefusalSteps.{refused-parent, refused-nothing, plain-own, plain-some}
 use Rattle.graph_writer.proofs.new_layer.NewLayer.with_times.Goals as goal
 
 pub returns-in_err-check_alone-clause-refusal : goal.returns-in_err-check_alone-clause-refusal

@@ -1,5 +1,5 @@
 use Rattle.std.proofs.Common.{sym, ◌∙◌}
-use Rattle.graph_writer.proofs.PlanOfSteps.{planned-count}
+use Rattle.graph_writer.proofs.plans.PlanOfSteps.{planned-count}
 use Rattle.graph_writer.proofs.new_plan.NewPlanPlanView.commit_count.Goals as goal
 
 pub returns : goal.returns

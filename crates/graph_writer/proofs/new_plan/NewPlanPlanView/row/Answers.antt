@@ -1,5 +1,5 @@
 use Rattle.std.proofs.Common.{arith}
-use Rattle.graph_writer.proofs.PlanOfSteps.{planned-count, row-there}
+use Rattle.graph_writer.proofs.plans.PlanOfSteps.{planned-count, row-there}
 use Rattle.graph_writer.proofs.new_plan.NewPlanPlanView.row.Goals as goal
 
 pub row_at-requires : goal.row_at-requires

@@ -1,0 +1,14 @@
+pub mod NewIdSteps
+pub mod KindSteps
+pub mod NullSteps
+pub mod NumberSteps
+pub mod PlaceSteps
+pub mod MixedSteps
+pub mod FrontSteps
+pub mod SearchSteps
+pub mod OrderSteps
+pub mod KnownSteps
+pub mod DistinctSteps
+pub mod FirstSteps
+pub mod HandedSteps
+pub mod LoopSteps

@@ -1,0 +1,9 @@
+pub mod RefusalSteps
+pub mod NewLayerSteps
+pub mod TopSteps
+pub mod WrittenSteps
+pub mod AcceptedSteps
+pub mod RightSteps
+pub mod ReasonSteps
+pub mod WriteSteps
+pub mod StaysRight
