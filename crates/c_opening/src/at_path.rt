@@ -17,8 +17,9 @@ ghost use Rattle.c_opening.specs.KnownOpening.{chain_answer, file_answer, first_
 ghost use Rattle.c_opening.specs.KnownOpening.{folder_answer, info_answer, is_final, known_opened};
 ghost use Rattle.c_opening.specs.KnownOpening.{layer_files, path_answer, refused_file};
 
-use crate::known::{CgKnown, FOLDER, KnownFiles, NO_MEMORY, NOTHING, find, is_known_file, is_read};
-use crate::known::read_bytes;
+use crate::known::{
+    CgKnown, FOLDER, KnownFiles, NO_MEMORY, NOTHING, find, is_known_file, is_read, read_bytes,
+};
 use gix_commitgraph::opening::path::{chain_path, info_chain_path, info_file_path, layer_path};
 use gix_commitgraph::opening::{OpenError, open_chain_dir_in, open_file_in};
 use gix_commitgraph::{FileError, Graph};

@@ -1,4 +1,4 @@
-pub mod ids
+pub mod positions
 pub mod layers
 pub mod levels
 pub mod filter_lists

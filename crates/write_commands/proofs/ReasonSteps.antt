@@ -41,10 +41,10 @@ use Rattle.graph_writer.specs.WritingRefusal.{MayRefuseLater, MayRefuseWriting, 
 use Rattle.graph_writer.specs.declared.commit.NewCommit.{NewCommit}
 use Rattle.graph_writer.specs.declared.commit.WriteError.{WriteError}
 use Rattle.graph_writer.specs.declared.commit.WriteError.TheVariants as error
-use Rattle.graph_writer.proofs.ids.KnownSteps.{parent-from, position-none}
-use Rattle.graph_writer.proofs.ids.NewIdSteps.{id-at, scan-holds, scan-misses, twice-from}
-use Rattle.graph_writer.proofs.ids.NumberSteps.{get-take, within-take}
-use Rattle.graph_writer.proofs.ids.NullSteps.{is_null-decides}
+use Rattle.graph_writer.proofs.positions.KnownSteps.{parent-from, position-none}
+use Rattle.graph_writer.proofs.positions.NewIdSteps.{id-at, scan-holds, scan-misses, twice-from}
+use Rattle.graph_writer.proofs.positions.NumberSteps.{get-take, within-take}
+use Rattle.graph_writer.proofs.positions.NullSteps.{is_null-decides}
 use Rattle.graph_writer.proofs.layers.RefusalSteps.{kind_of_first, none_below, plain-some}
 use Rattle.write_commands.specs.GraphCommits.{AreCommitsOf}
 use Rattle.write_commands.specs.MergedCommits.{MayRefuseCommitsOf}

@@ -25,7 +25,7 @@ use Rattle.graph_writer.specs.NewFilters.{HasFiltersOf}
 use Rattle.graph_writer.specs.RightThroughout.{CanBeAskedOn}
 use Rattle.graph_writer.specs.declared.commit.NewCommit.{NewCommit}
 use Rattle.graph_writer.specs.declared.filters.NewFilters.{NewFilters}
-use Rattle.graph_writer.proofs.ids.KnownSteps.{get-back}
+use Rattle.graph_writer.proofs.positions.KnownSteps.{get-back}
 use Rattle.graph_writer.proofs.layers.TopSteps.{start-front}
 
 differ-none : (lowest : Option FilterSettings) → differ lowest None ≡ false

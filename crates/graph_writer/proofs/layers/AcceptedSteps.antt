@@ -17,9 +17,9 @@ use Rattle.graph_writer.specs.declared.commit.NewCommit.{NewCommit}
 use Rattle.graph_writer.specs.declared.commit.WriteError.{WriteError}
 use Rattle.graph_writer.specs.declared.commit.WriteError.TheVariants as error
 use Rattle.graph_format.specs.Lookup.{scan}
-use Rattle.graph_writer.proofs.ids.NewIdSteps.{below-from, id-at}
+use Rattle.graph_writer.proofs.positions.NewIdSteps.{below-from, id-at}
 use Rattle.graph_writer.proofs.layers.RefusalSteps.{own_fault, twice_fault, below_fault, many_fault, parent_fault}
-use Rattle.graph_writer.proofs.ids.NullSteps.{is_null-decides}
+use Rattle.graph_writer.proofs.positions.NullSteps.{is_null-decides}
 
 not-null : (id : List ℕ) → is_null id ≡ false → ¬ IsNull id
 not-null id is null = let yes_it_is : is_null id ≡ true = (is_null-decides id).1 null in cc

@@ -18,7 +18,7 @@ use Rattle.graph_chunks.specs.GraphStoredDates.{times_of, dates_of}
 use Rattle.graph_format.specs.StoredHistory.{layer_history, history_of}
 use Rattle.gix_commitgraph.specs.Graph.{graph_ids, graph_commits, start, total}
 use Rattle.gix_commitgraph.proofs.layers.LayerListLemmas.{get-front}
-use Rattle.graph_writer.proofs.ids.KnownSteps.{get-back}
+use Rattle.graph_writer.proofs.positions.KnownSteps.{get-back}
 
 -- what a list of layers gives one after another, with one more layer
 parts-top : {X : Type 0} (f : Layer → List X) (layers : List Layer) (layer : Layer)

@@ -31,7 +31,7 @@ use Rattle.graph_writer.specs.declared.levels_below.LevelsBelow.{LevelsBelow}
 use Rattle.graph_writer.specs.declared.new_layer.NewLayer.{NewLayer}
 use Rattle.graph_writer.proofs.layers.AcceptedSteps.{scanned-none}
 use Rattle.graph_writer.proofs.levels.DateSteps.{right-dates}
-use Rattle.graph_writer.proofs.ids.DistinctSteps.{once-more, HoldOnce}
+use Rattle.graph_writer.proofs.positions.DistinctSteps.{once-more, HoldOnce}
 use Rattle.graph_writer.proofs.layers.RightSteps.{sound-top}
 use Rattle.graph_writer.proofs.layers.TopSteps.{opened-from, ids-top}
 use Rattle.graph_writer.proofs.layers.WrittenSteps.{told, has-commits, as-many}

@@ -22,7 +22,7 @@ use Rattle.graph_writer.specs.PlannedCommits.{IsPlanOf}
 use Rattle.graph_writer.specs.WrittenLayers.{SaysNewCommit, HasNewCommits}
 use Rattle.graph_writer.specs.declared.commit.NewCommit.{NewCommit}
 use Rattle.graph_writer.specs.declared.new_layer.NewLayer.{NewLayer}
-use Rattle.graph_writer.proofs.ids.FirstSteps.{first-hold}
+use Rattle.graph_writer.proofs.positions.FirstSteps.{first-hold}
 use Rattle.graph_writer.proofs.layers.TopSteps.{ids-top}
 
 -- what is there, where something is said of it

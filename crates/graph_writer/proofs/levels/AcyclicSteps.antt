@@ -22,9 +22,9 @@ use Rattle.graph_writer.specs.declared.new_layer.NewLayer.{NewLayer}
 use Rattle.graph_writer.proofs.layers.AcceptedSteps.{scanned-none}
 use Rattle.graph_writer.proofs.levels.CycleSteps.{root-parents, base, plain, parents-of-new, size-plain, plain-on-top}
 use Rattle.graph_writer.proofs.levels.CycleSteps.{id-at-position}
-use Rattle.graph_writer.proofs.ids.DistinctSteps.{ascending-once}
-use Rattle.graph_writer.proofs.ids.FirstSteps.{first-hold}
-use Rattle.graph_writer.proofs.ids.NewIdSteps.{scan-misses}
+use Rattle.graph_writer.proofs.positions.DistinctSteps.{ascending-once}
+use Rattle.graph_writer.proofs.positions.FirstSteps.{first-hold}
+use Rattle.graph_writer.proofs.positions.NewIdSteps.{scan-misses}
 
 -- a position whose id is known, among positions that hold these ids
 held : (all : List (List ℕ)) (positions : List ℕ) (ids : List (List ℕ)) (k : ℕ) (id : List ℕ) → HoldIds all positions ids

@@ -23,8 +23,8 @@ use Rattle.graph_writer.specs.NewCommits.{new_ids, HoldIds}
 use Rattle.graph_writer.specs.NewLayers.{IsNewLayer, ids_in_order}
 use Rattle.graph_writer.specs.declared.commit.NewCommit.{NewCommit}
 use Rattle.graph_writer.specs.declared.new_layer.NewLayer.{NewLayer}
-use Rattle.graph_writer.proofs.ids.FirstSteps.{first-hold}
-use Rattle.graph_writer.proofs.ids.KnownSteps.{get-back}
+use Rattle.graph_writer.proofs.positions.FirstSteps.{first-hold}
+use Rattle.graph_writer.proofs.positions.KnownSteps.{get-back}
 
 abbrev root : Node
 root = record { generation = 0; parents = [] }

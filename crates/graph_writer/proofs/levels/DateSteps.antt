@@ -30,7 +30,7 @@ use Rattle.graph_writer.specs.WriteRefusal.{new_layer_refusal}
 use Rattle.graph_writer.specs.declared.commit.NewCommit.{NewCommit}
 use Rattle.graph_writer.specs.declared.levels_below.LevelsBelow.{LevelsBelow}
 use Rattle.graph_writer.specs.declared.new_layer.NewLayer.{NewLayer}
-use Rattle.graph_writer.proofs.ids.KnownSteps.{get-back}
+use Rattle.graph_writer.proofs.positions.KnownSteps.{get-back}
 use Rattle.graph_writer.proofs.layers.RightSteps.{on-top, parents-below}
 use Rattle.graph_writer.proofs.layers.TopSteps.{history-top, times-top, dates-top, number-front, date-front}
 use Rattle.graph_writer.proofs.layers.WrittenSteps.{IsTold, told, as-many}

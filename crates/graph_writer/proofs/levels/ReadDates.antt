@@ -31,7 +31,7 @@ use Rattle.graph_encoder.specs.Written.{words_bytes, longs_bytes}
 use Rattle.graph_encoder.proofs.OffsetLemmas.{length-longs_bytes, length-offset_words, offset_of-written}
 use Rattle.graph_encoder.proofs.Pieces.{length-words_bytes}
 use Rattle.graph_encoder.proofs.PossibleChunks.{unless_empty-bytes}
-use Rattle.graph_writer.proofs.ids.KnownSteps.{get-back}
+use Rattle.graph_writer.proofs.positions.KnownSteps.{get-back}
 use Rattle.graph_writer.proofs.layers.TopSteps.{start-front}
 
 -- nothing is refused where no test holds

@@ -47,8 +47,8 @@ use Rattle.graph_writer.specs.declared.filters.NewFilters.{NewFilters}
 use Rattle.graph_writer.specs.declared.levels_below.LevelsBelow.{LevelsBelow}
 use Rattle.graph_writer.specs.declared.new_layer.NewLayer.{NewLayer}
 use Rattle.graph_writer.proofs.filter_lists.FilterLists.{filters-are, flat-lists}
-use Rattle.graph_writer.proofs.ids.MixedSteps.{distinct}
-use Rattle.graph_writer.proofs.ids.NewIdSteps.{id-at}
+use Rattle.graph_writer.proofs.positions.MixedSteps.{distinct}
+use Rattle.graph_writer.proofs.positions.NewIdSteps.{id-at}
 use Rattle.graph_writer.proofs.layers.RightSteps.{counts-top}
 use Rattle.graph_writer.proofs.layers.TopSteps.{history-top, times-top, dates-top}
 use Rattle.graph_writer.proofs.layers.WriteSteps.{HasOffsets}

@@ -34,9 +34,9 @@ use Rattle.graph_writer.specs.declared.filters.NewFilters.{NewFilters}
 use Rattle.graph_writer.proofs.layers.AcceptedSteps.{accepted}
 use Rattle.graph_writer.proofs.levels.DateSteps.{zip-at}
 use Rattle.graph_writer.proofs.filter_lists.FilterLists.{flat-lists}
-use Rattle.graph_writer.proofs.ids.NewIdSteps.{id-at, scan-holds, scan-misses, twice-from}
-use Rattle.graph_writer.proofs.ids.NumberSteps.{get-take}
-use Rattle.graph_writer.proofs.ids.PlaceSteps.{moved}
+use Rattle.graph_writer.proofs.positions.NewIdSteps.{id-at, scan-holds, scan-misses, twice-from}
+use Rattle.graph_writer.proofs.positions.NumberSteps.{get-take}
+use Rattle.graph_writer.proofs.positions.PlaceSteps.{moved}
 use Rattle.graph_writer.proofs.plans.PlanForSteps.{and-some}
 use Rattle.graph_writer.proofs.layers.RefusalSteps.{own_fault, twice_fault}
 use Rattle.graph_writer.proofs.plans.UniqueSteps.{one-file}

@@ -34,10 +34,10 @@ use Rattle.graph_writer.specs.LayerPlans.{history_with, times_with, dates_with, 
 use Rattle.graph_writer.specs.WrittenFiles.{IsPlannedFile}
 use Rattle.graph_writer.specs.declared.commit.NewCommit.{NewCommit}
 use Rattle.graph_writer.specs.declared.filters.NewFilters.{NewFilters}
-use Rattle.graph_writer.proofs.ids.DistinctSteps.{ascending-once}
+use Rattle.graph_writer.proofs.positions.DistinctSteps.{ascending-once}
 use Rattle.graph_writer.proofs.levels.DateSteps.{zip-at}
-use Rattle.graph_writer.proofs.ids.KnownSteps.{get-back}
-use Rattle.graph_writer.proofs.ids.MixedSteps.{not-less_itself}
+use Rattle.graph_writer.proofs.positions.KnownSteps.{get-back}
+use Rattle.graph_writer.proofs.positions.MixedSteps.{not-less_itself}
 use Rattle.graph_writer.proofs.levels.SameHistories.{parents_in, same-generations}
 use Rattle.graph_writer.proofs.layers.WrittenSteps.{some-and}
 

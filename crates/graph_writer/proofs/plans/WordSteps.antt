@@ -20,7 +20,7 @@ use Rattle.graph_writer.specs.NewLayers.{IsNewLayer, ids_in_order}
 use Rattle.graph_writer.specs.WritingRefusal.{words_for, word_count}
 use Rattle.graph_writer.specs.declared.commit.NewCommit.{NewCommit}
 use Rattle.graph_writer.specs.declared.new_layer.NewLayer.{NewLayer}
-use Rattle.graph_writer.proofs.ids.FirstSteps.{first-hold}
+use Rattle.graph_writer.proofs.positions.FirstSteps.{first-hold}
 use Rattle.graph_writer.proofs.filter_lists.SumSteps.{sum-all}
 
 -- the parents of the commits, one list for each

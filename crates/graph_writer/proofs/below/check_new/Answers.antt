@@ -3,7 +3,7 @@ use Rattle.gix_chunk_core.proofs.FirstFaultLemmas.{first_below-none, first_below
 use Rattle.gix_commitgraph.specs.Graph.{graph_ids}
 use Rattle.graph_format.specs.Lookup.{scan}
 use Rattle.graph_writer.specs.WriteRefusal.{below_at}
-use Rattle.graph_writer.proofs.ids.NewIdSteps.{id-at, below-from}
+use Rattle.graph_writer.proofs.positions.NewIdSteps.{id-at, below-from}
 use Rattle.graph_writer.proofs.below.check_new.Goals as goal
 
 pub loop-number-init : goal.loop-number-init

@@ -4,7 +4,7 @@ use Rattle.std.proofs.lemmas.List.Sums.{list_all-from_AllPass}
 use Rattle.std.proofs.lemmas.Option.{get_or_from_slice_get}
 use Rattle.gix_hash_core.specs.Oid.{oid_bytes}
 use Rattle.graph_writer.specs.WriteRefusal.{is_of_kind}
-use Rattle.graph_writer.proofs.ids.KindSteps.{not-all}
+use Rattle.graph_writer.proofs.positions.KindSteps.{not-all}
 use Rattle.graph_writer.proofs.check.has_parents_of_kind.Goals as goal
 
 pub returns-then-not-is_of_kind : goal.returns-then-not-is_of_kind

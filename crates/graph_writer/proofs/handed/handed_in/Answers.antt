@@ -1,5 +1,5 @@
 use Rattle.std.proofs.Common.{◌∙◌}
-use Rattle.graph_writer.proofs.ids.HandedSteps.{same-commits}
+use Rattle.graph_writer.proofs.positions.HandedSteps.{same-commits}
 use Rattle.graph_writer.proofs.handed.handed_in.Goals as goal
 
 pub of-requires : goal.of-requires

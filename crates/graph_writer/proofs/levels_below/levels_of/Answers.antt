@@ -6,7 +6,7 @@ use Rattle.graph_walks.specs.History.{generation_at}
 use Rattle.graph_format.specs.StoredHistory.{history_of}
 use Rattle.graph_levels.specs.OnTop.{no_level}
 use Rattle.graph_levels.specs.declared.level.Level.{Level}
-use Rattle.graph_writer.proofs.ids.LoopSteps.{more-places}
+use Rattle.graph_writer.proofs.positions.LoopSteps.{more-places}
 use Rattle.graph_writer.proofs.levels_below.levels_of.Goals as goal
 
 pub loop-number-preserved : goal.loop-number-preserved

@@ -4,7 +4,7 @@ use Rattle.gix_hash_core.specs.Oid.{oid_bytes}
 use Rattle.gix_hash_core.specs.declared.kind.Kind.TheVariants.{Sha1}
 use Rattle.graph_writer.specs.WriteRefusal.{kind_of_id}
 use Rattle.graph_writer.specs.declared.commit.NewCommit.{NewCommit}
-use Rattle.graph_writer.proofs.ids.HandedSteps.{kind-of_none}
+use Rattle.graph_writer.proofs.positions.HandedSteps.{kind-of_none}
 use Rattle.graph_writer.proofs.layers.RefusalSteps.{kind_of_first}
 use Rattle.graph_writer.proofs.new_layer.kind_of_first.Goals as goal
 

@@ -7,9 +7,9 @@ use Rattle.gix_chunk_core.proofs.FirstFaultLemmas.{first_below-none, first_below
 use Rattle.graph_writer.specs.NewCommits.{new_ids}
 use Rattle.graph_writer.specs.WriteRefusal.{twice_at}
 use Rattle.graph_writer.specs.declared.commit.NewCommit.{NewCommit}
-use Rattle.graph_writer.proofs.ids.HandedSteps.{said-at}
-use Rattle.graph_writer.proofs.ids.NewIdSteps.{twice-from}
-use Rattle.graph_writer.proofs.ids.NumberSteps.{AreNumbers, numbers-none, numbers-more, numbers-once, numbers-twice, numbers-scan}
+use Rattle.graph_writer.proofs.positions.HandedSteps.{said-at}
+use Rattle.graph_writer.proofs.positions.NewIdSteps.{twice-from}
+use Rattle.graph_writer.proofs.positions.NumberSteps.{AreNumbers, numbers-none, numbers-more, numbers-once, numbers-twice, numbers-scan}
 use Rattle.graph_writer.proofs.numbers.numbers_of.Goals as goal
 
 pub loop-number-init : goal.loop-number-init

@@ -4,7 +4,7 @@ use Rattle.std.specs.HashMap.{get}
 use Rattle.gix_chunk_core.specs.FirstFault.{first_below}
 use Rattle.graph_writer.specs.NewCommits.{new_ids}
 use Rattle.graph_writer.specs.WriteRefusal.{twice_at}
-use Rattle.graph_writer.proofs.ids.NumberSteps.{AreNumbers}
+use Rattle.graph_writer.proofs.positions.NumberSteps.{AreNumbers}
 use Rattle.graph_writer.proofs.numbers.numbers_of.Given as goal
 
 abbrev pub invariant-loop-number : goal.invariant-loop-number

@@ -1,6 +1,6 @@
 use Rattle.std.proofs.Common.{◌++◌, ◌∷◌, [], ℕ, List, ap, ◌∙◌, arith}
 use Rattle.graph_format.specs.Layer.{Layer}
-use Rattle.graph_writer.proofs.ids.LoopSteps.{mapped-more}
+use Rattle.graph_writer.proofs.positions.LoopSteps.{mapped-more}
 use Rattle.graph_writer.proofs.plan.checksums_of.Goals as goal
 
 pub loop-layer-preserved : goal.loop-layer-preserved

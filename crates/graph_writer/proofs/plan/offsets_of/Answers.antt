@@ -3,7 +3,7 @@ use Rattle.std.proofs.lemmas.List.{length_push}
 use Rattle.std.proofs.lemmas.List.Elements.{All-push}
 use Rattle.std.proofs.lemmas.Option.{slice_get-get_or}
 use Rattle.graph_levels.specs.OnTop.{level_at}
-use Rattle.graph_writer.proofs.ids.LoopSteps.{more-places}
+use Rattle.graph_writer.proofs.positions.LoopSteps.{more-places}
 use Rattle.graph_writer.proofs.plan.offsets_of.Goals as goal
 
 pub loop-place-init : goal.loop-place-init

@@ -2,7 +2,7 @@
 use Rattle.std.proofs.Common.{◌+◌, ℕ, List, length, slice_get, sym, ap, ◌∙◌}
 use Rattle.std.proofs.lemmas.List.{length_push}
 use Rattle.graph_writer.specs.declared.commit.NewCommit.{NewCommit}
-use Rattle.graph_writer.proofs.ids.LoopSteps.{more-places}
+use Rattle.graph_writer.proofs.positions.LoopSteps.{more-places}
 use Rattle.write_commands.specs.GraphCommits.{IsCommitAt}
 use Rattle.write_commands.proofs.graph_commits.commits_of.Goals as goal
 

@@ -3,7 +3,7 @@ use Rattle.gix_chunk_core.proofs.FirstFaultLemmas.{first_below-none, first_below
 use Rattle.gix_chunk_core.specs.FirstFault.{first_below}
 use Rattle.graph_writer.specs.Known.{ids_below}
 use Rattle.graph_writer.specs.WriteRefusal.{parent_at}
-use Rattle.graph_writer.proofs.ids.KnownSteps.{parent-from}
+use Rattle.graph_writer.proofs.positions.KnownSteps.{parent-from}
 use Rattle.graph_writer.proofs.resolve.Known.first_unknown.Goals as goal
 
 pub loop-earlier-init : goal.loop-earlier-init

@@ -1,8 +1,8 @@
 use Rattle.std.proofs.Common.{ℕ, get_or}
 use Rattle.std.proofs.lemmas.Option.{slice_get-get_or}
 use Rattle.gix_hash_core.specs.Oid.{oid_bytes}
-use Rattle.graph_writer.proofs.ids.HandedSteps.{said-at}
-use Rattle.graph_writer.proofs.ids.MixedSteps.{id-in_order}
+use Rattle.graph_writer.proofs.positions.HandedSteps.{said-at}
+use Rattle.graph_writer.proofs.positions.MixedSteps.{id-in_order}
 use Rattle.graph_writer.proofs.resolve.Known.id_at.Goals as goal
 
 pub at-commit-requires : goal.at-commit-requires

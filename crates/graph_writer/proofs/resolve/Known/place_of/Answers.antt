@@ -1,7 +1,7 @@
 use Rattle.std.proofs.Common.{◌≡◌, List, ℕ, Some, slice_get, sym, ap, ◌∙◌}
 use Rattle.gix_hash_core.specs.Oid.{oid_bytes}
 use Rattle.graph_writer.specs.Known.{new_ids_in_order}
-use Rattle.graph_writer.proofs.ids.SearchSteps.{known-at}
+use Rattle.graph_writer.proofs.positions.SearchSteps.{known-at}
 use Rattle.graph_writer.proofs.resolve.Known.place_of.Given.{Over}
 use Rattle.graph_writer.proofs.resolve.Known.place_of.Goals as goal
 use Rattle.graph_writer.proofs.resolve.Known.place_of.Goals.{Then-are_one}

@@ -1,6 +1,6 @@
 use Rattle.std.proofs.Common.{◌∙◌}
 use Rattle.gix_hash_core.specs.Oid.{oid_bytes}
-use Rattle.graph_writer.proofs.ids.KnownSteps.{none-below}
+use Rattle.graph_writer.proofs.positions.KnownSteps.{none-below}
 use Rattle.graph_writer.proofs.resolve.Known.position_below.Goals as goal
 
 pub returns-in_err-graph : goal.returns-in_err-graph

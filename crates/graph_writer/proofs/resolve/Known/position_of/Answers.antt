@@ -1,9 +1,9 @@
 use Rattle.std.proofs.Common.{length, arith}
 use Rattle.gix_hash_core.specs.Oid.{oid_bytes}
 use Rattle.graph_writer.specs.Known.{layers_below, new_ids_in_order}
-use Rattle.graph_writer.proofs.ids.FirstSteps.{new-first, below-first}
-use Rattle.graph_writer.proofs.ids.KnownSteps.{below-bound}
-use Rattle.graph_writer.proofs.ids.SearchSteps.{place-within}
+use Rattle.graph_writer.proofs.positions.FirstSteps.{new-first, below-first}
+use Rattle.graph_writer.proofs.positions.KnownSteps.{below-bound}
+use Rattle.graph_writer.proofs.positions.SearchSteps.{place-within}
 use Rattle.graph_writer.proofs.resolve.Known.position_of.Goals as goal
 
 pub returns-in-Some-clause-within : goal.returns-in-Some-clause-within

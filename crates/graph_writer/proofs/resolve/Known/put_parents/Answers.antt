@@ -7,7 +7,7 @@ use Rattle.gix_hash_core.specs.Oid.{oid_bytes}
 use Rattle.std.proofs.lemmas.List.Elements.{All-push, All-same}
 use Rattle.graph_format.specs.Lookup.{scan}
 use Rattle.graph_writer.specs.Known.{is_unknown_to, all_ids}
-use Rattle.graph_writer.proofs.ids.KnownSteps.{position-at, position-none}
+use Rattle.graph_writer.proofs.positions.KnownSteps.{position-at, position-none}
 use Rattle.graph_writer.proofs.resolve.Known.put_parents.Goals as goal
 
 pub returns-in-None-clause-unknown : goal.returns-in-None-clause-unknown

@@ -7,8 +7,8 @@ use Rattle.graph_writer.specs.Known.{ids_below, all_ids}
 use Rattle.graph_writer.specs.NewCommits.{AreFirst, new_times}
 use Rattle.graph_writer.specs.NewLayers.{times_in_order}
 use Rattle.graph_writer.specs.declared.commit.NewCommit.{NewCommit}
-use Rattle.graph_writer.proofs.ids.KnownSteps.{parent-from, if-none, lists-more, found-more, all-found, AreFoundTo}
-use Rattle.graph_writer.proofs.ids.LoopSteps.{mapped-more}
+use Rattle.graph_writer.proofs.positions.KnownSteps.{parent-from, if-none, lists-more, found-more, all-found, AreFoundTo}
+use Rattle.graph_writer.proofs.positions.LoopSteps.{mapped-more}
 use Rattle.graph_writer.proofs.resolve.Known.resolve.Goals as goal
 
 pub loop-place-init : goal.loop-place-init

@@ -5,7 +5,7 @@ use Rattle.graph_writer.specs.Known.{all_ids}
 use Rattle.graph_writer.specs.NewCommits.{AreFirst}
 use Rattle.graph_writer.specs.NewLayers.{times_in_order}
 use Rattle.graph_writer.specs.declared.commit.NewCommit.{NewCommit}
-use Rattle.graph_writer.proofs.ids.KnownSteps.{AreFoundTo}
+use Rattle.graph_writer.proofs.positions.KnownSteps.{AreFoundTo}
 use Rattle.graph_writer.proofs.resolve.Known.resolve.Given as goal
 
 abbrev pub invariant-loop-place : goal.invariant-loop-place

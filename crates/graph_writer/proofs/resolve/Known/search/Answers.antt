@@ -1,7 +1,7 @@
 use Rattle.std.proofs.Common.{◌+◌, ◌-◌, ◌/◌, ℕ, List, Some, sym, ap, ◌∙◌, arith}
 use Rattle.std.specs.Prelude.{is_none}
 use Rattle.gix_hash_core.specs.Oid.{oid_bytes}
-use Rattle.graph_writer.proofs.ids.SearchSteps.{less-to, greater-from, none-between, known-at, same-id}
+use Rattle.graph_writer.proofs.positions.SearchSteps.{less-to, greater-from, none-between, known-at, same-id}
 use Rattle.graph_writer.proofs.resolve.Known.search.Goals as goal
 
 pub returns-in-Equal-clause-some : goal.returns-in-Equal-clause-some

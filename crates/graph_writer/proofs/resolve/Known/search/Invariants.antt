@@ -1,7 +1,7 @@
 use Rattle.std.proofs.Common.{◌-◌, ◌≤◌, length}
 use Rattle.gix_hash_core.specs.Oid.{oid_bytes}
 use Rattle.graph_writer.specs.Known.{new_ids_in_order}
-use Rattle.graph_writer.proofs.ids.SearchSteps.{AreLessTo, AreGreaterFrom}
+use Rattle.graph_writer.proofs.positions.SearchSteps.{AreLessTo, AreGreaterFrom}
 use Rattle.graph_writer.proofs.resolve.Known.search.Given as goal
 
 -- what is left out on both sides has other ids

@@ -2,7 +2,7 @@ use Rattle.std.proofs.Common.{◌≡◌, ◌<◌, [], ℕ, List, Bool, length, g
 use Rattle.std.proofs.lemmas.Option.{get_or_from_slice_get}
 use Rattle.gix_hash_core.specs.Oid.{oid_bytes}
 use Rattle.graph_writer.specs.Known.{is_unknown_to}
-use Rattle.graph_writer.proofs.ids.KnownSteps.{position-at, position-none}
+use Rattle.graph_writer.proofs.positions.KnownSteps.{position-at, position-none}
 use Rattle.graph_writer.proofs.resolve.Known.unknown_parent.Goals as goal
 
 pub returns-in-None : goal.returns-in-None

@@ -7,7 +7,7 @@ use Rattle.gix_hash_core.specs.declared.kind.Kind.TheVariants.{Sha1}
 use Rattle.graph_writer.specs.NewCommits.{new_ids}
 use Rattle.graph_writer.specs.WriteRefusal.{kind_to_write}
 use Rattle.graph_writer.specs.declared.commit.NewCommit.{NewCommit}
-use Rattle.graph_writer.proofs.ids.NewIdSteps.{id-at}
+use Rattle.graph_writer.proofs.positions.NewIdSteps.{id-at}
 
 -- commits that say what they are
 pub same-commits : (commits : List NewCommit) → map (λ commit. commit) commits ≡ commits

@@ -18,8 +18,8 @@ use Rattle.graph_writer.specs.NewCommits.{new_ids}
 use Rattle.graph_writer.specs.NewLayers.{ids_in_order}
 use Rattle.graph_writer.specs.SortedPlaces.{IsOrder}
 use Rattle.graph_writer.specs.declared.commit.NewCommit.{NewCommit}
-use Rattle.graph_writer.proofs.ids.MixedSteps.{place-of, not-less_itself}
-use Rattle.graph_writer.proofs.ids.NewIdSteps.{scan-misses}
+use Rattle.graph_writer.proofs.positions.MixedSteps.{place-of, not-less_itself}
+use Rattle.graph_writer.proofs.positions.NewIdSteps.{scan-misses}
 
 -- All ids before a place are less than this one.
 abbrev pub AreLessTo : List (List ℕ) → List ℕ → ℕ → Type 0

@@ -6,8 +6,8 @@ use Rattle.graph_format.specs.Lookup.{scan}
 use Rattle.graph_format.specs.Order.{AreAscending}
 use Rattle.graph_layer.proofs.AscendingIdLemmas.{ascending-less, not-less_itself}
 use Rattle.gix_commitgraph.proofs.layers.LayerListLemmas.{get-front}
-use Rattle.graph_writer.proofs.ids.KnownSteps.{get-back}
-use Rattle.graph_writer.proofs.ids.NewIdSteps.{scan-misses}
+use Rattle.graph_writer.proofs.positions.KnownSteps.{get-back}
+use Rattle.graph_writer.proofs.positions.NewIdSteps.{scan-misses}
 
 -- no two positions hold one id
 abbrev pub HoldOnce : List (List ℕ) → Type 0

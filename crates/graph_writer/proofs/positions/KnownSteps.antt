@@ -16,7 +16,7 @@ use Rattle.graph_format.proofs.ScanLemmas.{scan-none}
 use Rattle.std.proofs.lemmas.Option.{slice_get_within, slice_get-get_or, same_Some}
 use Rattle.gix_chunk_core.specs.FirstFault.{first_below}
 use Rattle.gix_chunk_core.proofs.FirstFaultLemmas.{first_below-none_from}
-use Rattle.graph_writer.proofs.ids.NewIdSteps.{scan-holds}
+use Rattle.graph_writer.proofs.positions.NewIdSteps.{scan-holds}
 use Rattle.graph_writer.specs.Known.{ids_below}
 use Rattle.graph_writer.specs.SortedPlaces.{IsOrder}
 use Rattle.graph_writer.specs.declared.resolve.Known.{Known}

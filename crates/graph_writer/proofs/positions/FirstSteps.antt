@@ -19,10 +19,10 @@ use Rattle.graph_writer.specs.NewLayers.{ids_in_order}
 use Rattle.graph_writer.specs.SortedPlaces.{IsOrder}
 use Rattle.graph_writer.specs.WriteRefusal.{below_at}
 use Rattle.graph_writer.specs.declared.commit.NewCommit.{NewCommit}
-use Rattle.graph_writer.proofs.ids.DistinctSteps.{ascending-once, split}
-use Rattle.graph_writer.proofs.ids.KnownSteps.{get-back}
-use Rattle.graph_writer.proofs.ids.NewIdSteps.{below-from, scan-holds, scan-misses}
-use Rattle.graph_writer.proofs.ids.SearchSteps.{number-at}
+use Rattle.graph_writer.proofs.positions.DistinctSteps.{ascending-once, split}
+use Rattle.graph_writer.proofs.positions.KnownSteps.{get-back}
+use Rattle.graph_writer.proofs.positions.NewIdSteps.{below-from, scan-holds, scan-misses}
+use Rattle.graph_writer.proofs.positions.SearchSteps.{number-at}
 
 -- no position before the first holds the id
 pub none-before : (ids : List (List ℕ)) (id : List ℕ) (p : ℕ) → scan ids id ≡ Some p → (i : ℕ) → i < p
