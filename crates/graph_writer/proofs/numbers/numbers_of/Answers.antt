@@ -9,7 +9,8 @@ use Rattle.graph_writer.specs.WriteRefusal.{twice_at}
 use Rattle.graph_writer.specs.declared.commit.NewCommit.{NewCommit}
 use Rattle.graph_writer.proofs.positions.HandedSteps.{said-at}
 use Rattle.graph_writer.proofs.positions.NewIdSteps.{twice-from}
-use Rattle.graph_writer.proofs.positions.NumberSteps.{AreNumbers, numbers-none, numbers-more, numbers-once, numbers-twice, numbers-scan}
+use Rattle.graph_writer.proofs.positions.NumberSteps.{AreNumbers, numbers-none, numbers-more, numbers-once}
+use Rattle.graph_writer.proofs.positions.NumberSteps.{numbers-twice, numbers-scan}
 use Rattle.graph_writer.proofs.numbers.numbers_of.Goals as goal
 
 pub loop-number-init : goal.loop-number-init
