@@ -1,5 +1,5 @@
--- The graph of a chain: its layers are files at some places, of which one may stand several times. ("Commit-Graphs Chains" of Git's
--- commit-graph design.)
+-- The graph of a chain: its layers are files at some places, of which one may stand several times. ("Commit-Graphs Chains" of
+-- Git's commit-graph design.)
 use Rattle.std.specs.Prelude.{◌≡◌, ℕ, List, Option, Some, None, MatchOption, filter_map, length, nat_le, position, slice_get}
 use Rattle.graph_format.specs.Layer.{Layer}
 use Rattle.c_opening.specs.Codes.{no_such_layer}
