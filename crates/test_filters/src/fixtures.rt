@@ -1,7 +1,7 @@
 //! What the tests share: the trees of the tables as bytes, in a source. Where an allocation fails,
 //! the process aborts.
 
-use crate::tables::{LargeRow, Place, TREES, TreeRow};
+use crate::tables::{IN_PART, LargeRow, PARTS, Place, TreeRow, trees_in};
 use gix_hash_core::{Kind, ObjectId, digest};
 use std::alloc::Global;
 use std::process::Abort;
@@ -31,7 +31,8 @@ pub fn id_from(rt: &impl Abort, digits: &str) -> ObjectId {
 
 /// The id of the tree with a number.
 pub fn id_of(rt: &impl Abort, kind: Kind, number: usize) -> ObjectId {
-    let (sha1, sha256, _, _) = TREES.get(number).expect(rt, "a tree");
+    let part = trees_in(number / IN_PART);
+    let (sha1, sha256, _, _) = part.get(number % IN_PART).expect(rt, "a tree");
     id_from(rt, by_kind(kind, sha1, sha256))
 }
 
@@ -73,13 +74,21 @@ pub fn no_trees(alloc: Global, kind: Kind) -> KnownTrees {
     }
 }
 
+/// Puts the trees of a part of the table into a source, but for one.
+fn put_part(rt: &impl Abort, alloc: Global, source: &mut KnownTrees, part: usize, left_out: usize) {
+    let first = part.saturating_mul(IN_PART);
+    for (place, row) in (0..IN_PART).zip(trees_in(part)) {
+        if first.saturating_add(place) != left_out {
+            put_row(rt, alloc, source, row);
+        }
+    }
+}
+
 /// The trees of the tables, but for one.
 pub fn trees_without(rt: &impl Abort, alloc: Global, kind: Kind, left_out: usize) -> KnownTrees {
     let mut source = no_trees(alloc, kind);
-    for (number, row) in (0..99).zip(TREES) {
-        if number != left_out {
-            put_row(rt, alloc, &mut source, row);
-        }
+    for part in 0..PARTS {
+        put_part(rt, alloc, &mut source, part, left_out);
     }
     source
 }

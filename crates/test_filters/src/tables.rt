@@ -11,7 +11,8 @@ pub type TreeRow = (&'static str, &'static str, &'static str, &'static str);
 /// A commit: the tree of its first parent, if it has one, its own tree, and its filter.
 pub type FilterRow = (Option<usize>, usize, &'static str);
 
-/// The numbers of trees in [`TREES`].
+/// The numbers of trees: that of the part of the table in which a tree stands, times the number of
+/// trees in a part, and its place there.
 pub const EMPTY: usize = 0;
 
 pub const ONE: usize = 1;
@@ -70,8 +71,8 @@ pub const CHAIN_6: usize = 38;
 
 pub const SUBMODULES: usize = 39;
 
-/// The trees.
-pub const TREES: &[TreeRow] = &[
+/// Trees 0 to 4.
+const FIRST_TREES: &[TreeRow] = &[
     // EMPTY: nothing
     (
         "4b825dc642cb6eb9a060e54bf8d69288fbee4904",
@@ -109,6 +110,10 @@ pub const TREES: &[TreeRow] = &[
         "3430303030206500810d9efafdcaae478f3047cab780fd6db5a8d896a799abfb7238e6b61f2bf48e31303036\
         34342078003333333333333333333333333333333333333333333333333333333333333333",
     ),
+];
+
+/// Trees 5 to 9.
+const SECOND_TREES: &[TreeRow] = &[
     // D_NEW: 40000 e, 100644 x
     (
         "27c18e8ad274677c5948f12e0437672f016f0240",
@@ -169,6 +174,10 @@ pub const TREES: &[TreeRow] = &[
         6666666666666666666666666666666666666666666666666666666666666631363030303020730077777777\
         77777777777777777777777777777777777777777777777777777777",
     ),
+];
+
+/// Trees 10 to 14.
+const THIRD_TREES: &[TreeRow] = &[
     // SUBMODULE: 100644 a, 100755 b, 40000 d, 120000 l, 160000 s
     (
         "6a989b1e1be7d165210b14cd724e577a6c5bb150",
@@ -239,6 +248,10 @@ pub const TREES: &[TreeRow] = &[
         6666666666666666666666666666666666666666666666666666666666666631363030303020730077777777\
         77777777777777777777777777777777777777777777777777777777",
     ),
+];
+
+/// Trees 15 to 19.
+const FOURTH_TREES: &[TreeRow] = &[
     // GONE: 100644 a, 100755 b, 120000 l, 160000 s
     (
         "df1d1e901d8286c2a04b690010e71cd5a7a583c7",
@@ -303,6 +316,10 @@ pub const TREES: &[TreeRow] = &[
         343420612e630033333333333333333333333333333333333333333333333333333333333333333130303634\
         34206130004444444444444444444444444444444444444444444444444444444444444444",
     ),
+];
+
+/// Trees 20 to 24.
+const FIFTH_TREES: &[TreeRow] = &[
     // FOLDED: 100644 a-b, 100644 a.c, 40000 a, 100644 a0
     (
         "cabf494d15fcea1c4067905c8dcdd42b913c043e",
@@ -361,6 +378,10 @@ pub const TREES: &[TreeRow] = &[
         "31303036343420706c61696e0011111111111111111111111111111111111111111111111111111111111111\
         11343030303020e282ac00d1b2e67fc1a17e11032123f1a5b5b1f19e56aacd8a06c2b878a63732958a85f5",
     ),
+];
+
+/// Trees 25 to 29.
+const SIXTH_TREES: &[TreeRow] = &[
     // LENGTHS: 100644 a, 100644 ab, 100644 abc, 100644 abcd, 100644 abcde, 100644 abcdef,
     // 100644 abcdefg, 100644 abcdefgh, 100644 abcdefghi, 100644 abcdefghij, 100644 abcdefghijk,
     // 100644 abcdefghijkl, 100644 abcdefghijklm, 100644 abcdefghijklmn, 100644 abcdefghijklmno,
@@ -449,6 +470,10 @@ pub const TREES: &[TreeRow] = &[
         "3737372061004444444444444444444444444444444444444444444444444444444444444444343037353520\
         6400810d9efafdcaae478f3047cab780fd6db5a8d896a799abfb7238e6b61f2bf48e",
     ),
+];
+
+/// Trees 30 to 34.
+const SEVENTH_TREES: &[TreeRow] = &[
     // NEW_TYPES: 160000 a, 040000 d
     (
         "655910593469ceb9dedf89577f2c343a04d59124",
@@ -492,6 +517,10 @@ pub const TREES: &[TreeRow] = &[
         "34303030302065003727b99847c2b69b651528ec635d3b326ac99028",
         "34303030302065007233544238b24c9cae5759a71e69e6dcc9caade370aaa1958a90e93799523195",
     ),
+];
+
+/// Trees 35 to 39.
+const EIGHTH_TREES: &[TreeRow] = &[
     // CHAIN_3: 40000 d
     (
         "5315f6042b4bac7bf093f36d1d88fb9587a8bec3",
@@ -530,6 +559,59 @@ pub const TREES: &[TreeRow] = &[
         30303030206d32002222222222222222222222222222222222222222222222222222222222222222",
     ),
 ];
+
+/// How many trees are in each part of the table.
+pub const IN_PART: usize = 5;
+
+/// How many parts the table has.
+pub const PARTS: usize = 8;
+
+fn first_trees() -> &'static [TreeRow] {
+    FIRST_TREES
+}
+
+fn second_trees() -> &'static [TreeRow] {
+    SECOND_TREES
+}
+
+fn third_trees() -> &'static [TreeRow] {
+    THIRD_TREES
+}
+
+fn fourth_trees() -> &'static [TreeRow] {
+    FOURTH_TREES
+}
+
+fn fifth_trees() -> &'static [TreeRow] {
+    FIFTH_TREES
+}
+
+fn sixth_trees() -> &'static [TreeRow] {
+    SIXTH_TREES
+}
+
+fn seventh_trees() -> &'static [TreeRow] {
+    SEVENTH_TREES
+}
+
+fn eighth_trees() -> &'static [TreeRow] {
+    EIGHTH_TREES
+}
+
+/// The trees of a part, by its number. The whole table at once is more than the prover computes.
+pub fn trees_in(part: usize) -> &'static [TreeRow] {
+    match part {
+        0 => first_trees(),
+        1 => second_trees(),
+        2 => third_trees(),
+        3 => fourth_trees(),
+        4 => fifth_trees(),
+        5 => sixth_trees(),
+        6 => seventh_trees(),
+        7 => eighth_trees(),
+        _ => &[],
+    }
+}
 
 /// The filters of commits with one parent or none.
 pub const FILTERS: &[FilterRow] = &[
