@@ -32,7 +32,8 @@ use std::marker::Model;
 
 /// Answers questions over one graph that was checked, and keeps its memory from one question to the
 /// next: that of a [`Searcher`] and of a [`Comparer`], and the corrected dates, from the first
-/// question on that asks for merge bases. A contract sees it as the graph's layers.
+/// question on that asks for merge bases, or from the second that asks for another search. A
+/// contract sees it as the graph's layers.
 #[derive(Drop)]
 pub struct CheckedAsker<'c, 'g> {
     alloc: Global,
@@ -86,14 +87,16 @@ impl<'c, 'g> CheckedAsker<'c, 'g> {
         match question {
             Question::IsAncestor(first, second) => {
                 let (first, second) = (first.as_oid(), second.as_oid());
-                match is_ancestor(self.graph, &mut self.searcher, first, second) {
+                let (searcher, dates) = (&mut self.searcher, &mut self.dates);
+                match is_ancestor(self.alloc, self.graph, searcher, dates, first, second) {
                     Ok(told) => Ok(Reply::Told(told)),
                     Err(refusal) => Err(refusal),
                 }
             }
             Question::Walk(first, second) => {
                 let (first, second) = (first.as_oid(), second.as_oid());
-                match walk(self.alloc, self.graph, &mut self.searcher, first, second) {
+                let (searcher, dates) = (&mut self.searcher, &mut self.dates);
+                match walk(self.alloc, self.graph, searcher, dates, first, second) {
                     Ok(walk) => Ok(Reply::Walk(walk)),
                     Err(refusal) => Err(refusal),
                 }

@@ -12,6 +12,8 @@ use std::alloc::Global;
 pub(crate) struct KnownDates {
     pub(crate) found: Option<CorrectedDates>,
     has_looked: bool,
+    /// Whether a search that can do without them was made before.
+    is_asked_again: bool,
 }
 
 impl KnownDates {
@@ -22,6 +24,7 @@ impl KnownDates {
         KnownDates {
             found: None,
             has_looked: false,
+            is_asked_again: false,
         }
     }
 
@@ -38,5 +41,17 @@ impl KnownDates {
         if let Ok(found) = graph.dates(alloc) {
             self.found = found;
         }
+    }
+
+    /// Looks for the dates of a graph as `look` does, but not at the first call: to check them
+    /// takes longer than one search for an ancestor that goes without them.
+    pub(crate) fn look_again(&mut self, alloc: Global, graph: &Checked<'_>)
+        requires { IfSome self.old.found (AreDatesOf graph.now.layers) }
+        ensures { IfSome self.new.found (AreDatesOf graph.now.layers) }
+    {
+        if self.is_asked_again {
+            self.look(alloc, graph);
+        }
+        self.is_asked_again = true;
     }
 }

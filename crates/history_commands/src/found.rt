@@ -1,11 +1,15 @@
 //! What searches find in a graph that was checked, by the ids of commits.
 
-ghost use Rattle.std.specs.Prelude.{◌≡◌, ◌<◌, [], ◌∷◌, All, IfErr, IfOk, IfSome, IsNone, length};
+ghost use Rattle.std.specs.Prelude.{◌≡◌, ◌<◌, [], ◌∷◌, All, IfErr, IfNone, IfOk, IfSome, IsNone};
+ghost use Rattle.std.specs.Prelude.{length};
 ghost use Rattle.std.specs.List.{AllZip};
 ghost use Rattle.gix_hash_core.specs.Oid.{oid_bytes};
+ghost use Rattle.graph_walks.specs.Walks.{Reaches};
+ghost use Rattle.graph_format.specs.StoredHistory.{history_of};
 ghost use Rattle.gix_commitgraph.specs.Graph.{IsGraph, total};
 ghost use Rattle.gix_commitgraph.specs.IdWalks.{ids_at};
 ghost use Rattle.commit_search.specs.Positions.{numbers_of};
+ghost use Rattle.commit_search.specs.WalkAnswer.{IsShortestWalk};
 ghost use Rattle.answers.specs.FoundOf.{FindsAt, IsFoundOf, OfFirst, OfTwo, known_map};
 ghost use Rattle.answers.specs.FoundOf.{listed_comparison, listed_walk};
 ghost use Rattle.graph_commands.specs.Ancestor.{IsThere};
@@ -21,21 +25,26 @@ use graph_commands::refusal::Refusal;
 use graph_history::{Checked, Comparer, Comparison, Searcher};
 use std::alloc::{AllocError, Global};
 
-/// Whether the commit with the first id is an ancestor of the one with the second, or the same. The
-/// error is `Walk`, where an allocation failed; both are there then.
+/// Whether the commit with the first id is an ancestor of the one with the second, or the same. From
+/// the second question on, the search goes by corrected dates too, where the graph has right ones.
+/// The error is `Walk`, where an allocation failed; both are there then.
 pub(crate) fn is_ancestor(
+    alloc: Global,
     graph: &Checked<'_>,
     searcher: &mut Searcher<'_>,
+    dates: &mut KnownDates,
     first: oid<'_>,
     second: oid<'_>,
 ) -> Result<Answer<bool>, Refusal>
-    requires { searcher.old ≡ graph.now.layers }
+    requires searcher { searcher.old ≡ graph.now.layers }
+    requires dates { IfSome dates.old.found (AreDatesOf graph.now.layers) }
     ensures found { IfOk result (IsFoundOf (Scans graph.now.layers)
         (OfTwo (IsTold graph.now.layers))
         (oid_bytes first.entry ∷ oid_bytes second.entry ∷ [])) }
     ensures refused { IfErr result (λ refusal. (refusal ≡ Refusal.Walk)
         × All (IsThere graph.now.layers) (oid_bytes first.entry ∷ oid_bytes second.entry ∷ [])) }
     ensures searcher { searcher.new ≡ searcher.old }
+    ensures dates { IfSome dates.new.found (AreDatesOf graph.now.layers) }
 {
     let Some(first) = graph.find(first) else {
         return Ok(Answer::Unknown(1));
@@ -43,28 +52,55 @@ pub(crate) fn is_ancestor(
     let Some(second) = graph.find(second) else {
         return Ok(Answer::Unknown(2));
     };
-    match searcher.is_ancestor(first, second) {
+    dates.look_again(alloc, graph);
+    match told_between(graph, searcher, dates, first, second) {
         Ok(told) => Ok(Answer::Known(told)),
         Err(_) => Err(Refusal::Walk),
     }
 }
 
+/// Whether one commit is an ancestor of another, or the same, by a search that goes by corrected
+/// dates too, where some are known.
+fn told_between(
+    graph: &Checked<'_>,
+    searcher: &mut Searcher<'_>,
+    dates: &KnownDates,
+    ancestor: Position,
+    descendant: Position,
+) -> Result<bool, AllocError>
+    requires searcher { searcher.old ≡ graph.now.layers }
+    requires dates { IfSome dates.now.found (AreDatesOf graph.now.layers) }
+    requires ancestor { ancestor.0 < total graph.now.layers }
+    requires descendant { descendant.0 < total graph.now.layers }
+    ensures told { IfOk result (IsTold graph.now.layers ancestor.0 descendant.0) }
+    ensures searcher { searcher.new ≡ searcher.old }
+{
+    match &dates.found {
+        Some(found) => graph.is_ancestor_by_dates(searcher, found, ancestor, descendant),
+        None => searcher.is_ancestor(ancestor, descendant),
+    }
+}
+
 /// The ids on a shortest walk along parents from the commit with the first id to the one with the
-/// second. The error is `Walk`, where an allocation failed; both are there then.
+/// second. The search goes by the numbers that [`is_ancestor`] goes by. The error is `Walk`, where
+/// an allocation failed; both are there then.
 pub(crate) fn walk(
     alloc: Global,
     graph: &Checked<'_>,
     searcher: &mut Searcher<'_>,
+    dates: &mut KnownDates,
     first: oid<'_>,
     second: oid<'_>,
 ) -> Result<Answer<Option<Vec<ObjectId>>>, Refusal>
-    requires { searcher.old ≡ graph.now.layers }
+    requires searcher { searcher.old ≡ graph.now.layers }
+    requires dates { IfSome dates.old.found (AreDatesOf graph.now.layers) }
     ensures found { IfOk result (λ found. IsFoundOf (Scans graph.now.layers)
         (OfTwo (IsWalkOfIds graph.now.layers))
         (oid_bytes first.entry ∷ oid_bytes second.entry ∷ []) (known_map listed_walk found)) }
     ensures refused { IfErr result (λ refusal. (refusal ≡ Refusal.Walk)
         × All (IsThere graph.now.layers) (oid_bytes first.entry ∷ oid_bytes second.entry ∷ [])) }
     ensures searcher { searcher.new ≡ searcher.old }
+    ensures dates { IfSome dates.new.found (AreDatesOf graph.now.layers) }
 {
     let Some(first) = graph.find(first) else {
         return Ok(Answer::Unknown(1));
@@ -72,7 +108,8 @@ pub(crate) fn walk(
     let Some(second) = graph.find(second) else {
         return Ok(Answer::Unknown(2));
     };
-    match walk_between(alloc, graph, searcher, first, second) {
+    dates.look_again(alloc, graph);
+    match walk_between(alloc, graph, searcher, dates, first, second) {
         Ok(walk) => Ok(Answer::Known(walk)),
         Err(_) => Err(Refusal::Walk),
     }
@@ -83,10 +120,12 @@ fn walk_between(
     alloc: Global,
     graph: &Checked<'_>,
     searcher: &mut Searcher<'_>,
+    dates: &KnownDates,
     from: Position,
     to: Position,
 ) -> Result<Option<Vec<ObjectId>>, AllocError>
     requires searcher { searcher.old ≡ graph.now.layers }
+    requires dates { IfSome dates.now.found (AreDatesOf graph.now.layers) }
     requires from { from.0 < total graph.now.layers }
     requires to { to.0 < total graph.now.layers }
     ensures walk { IfOk result (λ walk.
@@ -95,13 +134,44 @@ fn walk_between(
 {
     // The contract of `num_commits` says that the layers make a graph.
     let _commits = graph.num_commits();
-    let reached = searcher.ancestor_walk(from, to)?;
-    match reached.walk {
+    let found = steps_between(graph, searcher, dates, from, to)?;
+    match found {
         Some(walk) => match ids_of(alloc, graph, &walk) {
             Ok(ids) => Ok(Some(ids)),
             Err(error) => Err(error),
         },
         None => Ok(None),
+    }
+}
+
+/// The positions on a shortest walk along parents from one commit to another, or that there is
+/// none, by a search that goes by corrected dates too, where some are known.
+fn steps_between(
+    graph: &Checked<'_>,
+    searcher: &mut Searcher<'_>,
+    dates: &KnownDates,
+    from: Position,
+    to: Position,
+) -> Result<Option<Vec<Position>>, AllocError>
+    requires searcher { searcher.old ≡ graph.now.layers }
+    requires dates { IfSome dates.now.found (AreDatesOf graph.now.layers) }
+    requires from { from.0 < total graph.now.layers }
+    requires to { to.0 < total graph.now.layers }
+    ensures walk { IfOk result (λ answer. IfSome answer (λ walk.
+        IsShortestWalk (history_of graph.now.layers) from.0 to.0 (numbers_of walk.items))) }
+    ensures none { IfOk result (λ answer. IfNone answer
+        (¬ Reaches (history_of graph.now.layers) from.0 to.0)) }
+    ensures searcher { searcher.new ≡ searcher.old }
+{
+    match &dates.found {
+        Some(found) => {
+            let reached = graph.ancestor_walk_by_dates(searcher, found, from, to)?;
+            Ok(reached.walk)
+        }
+        None => {
+            let reached = searcher.ancestor_walk(from, to)?;
+            Ok(reached.walk)
+        }
     }
 }
 

@@ -1,9 +1,10 @@
-"""Checks `merge-base` on small histories at random, most with cycles of parents, beside all walks that there are.
+"""Checks `merge-base`, and what `ask` tells of walks, on small histories at random, most with cycles of parents, beside all walks
+that there are.
 
 A commit of Git's is never among its own ancestors; in a file one may be, if its generation number is at the cap. So the
 files are put together here, in one layer or up to three, and what is expected is found from the parents alone, as the
 definitions have it. Some have corrected dates, of times in any order, some of them equal or of more than 32 bits. Where a
-layer has none, or one of them is wrong by a second, the search goes by generation numbers.
+layer has none, or one of them is wrong by a second, the search goes by generation numbers. Some have many roots.
 """
 
 import itertools
@@ -28,8 +29,17 @@ PART = 250
 SETS = 5
 """So many questions are asked of each history."""
 
+PAIRS = 6
+"""Of so many pairs `ask` tells whether there is a walk, and one."""
+
 LAYERS = (1, 1, 2, 3)
 """A history has as many layers as one of these says."""
+
+ROOTS = 40
+"""So many commits of some histories have no parents."""
+
+SELDOM = 0.03
+"""Such a part of all histories has so many roots."""
 
 DATES = ("none", "right", "right", "one wrong", "one layer without")
 """What may be done about the dates of a history."""
@@ -57,7 +67,7 @@ def check_all(histories, results):
     answers = many.in_processes(try_part, parts)
     complaints, cyclic = [complaint for complaint, _, _ in answers if complaint], sum(count for _, count, _ in answers)
     title = "merge-base, %d histories at random, %d with cycles" % (HISTORIES, cyclic)
-    results.check("%s (%d runs)" % (title, HISTORIES * SETS), complaints[0] if complaints else None)
+    results.check("%s (%d runs)" % (title, HISTORIES * (SETS + 1)), complaints[0] if complaints else None)
     odd = sorted(KINDS.symmetric_difference(set().union(*(kinds for _, _, kinds in answers))))
     results.check("merge-base, histories at random, each kind of answer", "none or one has %s" % odd if odd else None)
 
@@ -77,15 +87,21 @@ def try_part(program, start, count):
                 kinds.add(kind)
                 if complaint:
                     return "history %d, %s: %s" % (number, commits, complaint), cyclic, kinds
+            complaint = walks_complaint(bench, info, history, chance)
+            if complaint:
+                return "history %d, ask: %s" % (number, complaint), cyclic, kinds
     return None, cyclic, kinds
 
 
 def written(info, chance):
     """Makes a history at random, and lays out the file of it or the chain."""
     kind = chance.choice(list(ID_LENGTH))
-    sizes = [chance.randint(1, 12) for _ in range(chance.choice(LAYERS))]
+    has_roots = chance.random() < SELDOM
+    sizes = [chance.randint(1, 12) + ROOTS * has_roots for _ in range(chance.choice(LAYERS))]
     starts = list(itertools.accumulate([0, *sizes]))
     parents = further.history(starts, chance, chance.choice((0.1, 0.3, 0.6)))
+    for root in chance.sample(range(len(parents)), ROOTS * has_roots):
+        parents[root] = ()
     below = [proper_ancestors(parents, commit) for commit in range(len(parents))]
     levels, files = generations(parents, below), []
     times = [chance.choice(further.TIMES) for _ in parents]
@@ -144,3 +160,39 @@ def question(bench, info, history, commits):
     visits = Visits(history.parents, history.dates, reached, cap=None) if history.dates else by_number
     bounds, named = visits.bounds(commits[0], commits[1:], len(bases)), [history.ids[base] for base in bases]
     return complaint_of(named, counts, bounds, Answer(status, text, b""), place), kind
+
+
+def walks_complaint(bench, info, history, chance):
+    """A complaint about what `ask` tells of walks between some pairs of commits of a history, or None."""
+    pairs = [chance.choices(range(len(history.parents)), k=2) for _ in range(PAIRS)]
+    words = ["%s %s" % tuple(history.ids[commit] for commit in pair) for pair in pairs]
+    lines = ["walk %s\nis-ancestor %s\n" % (said, " ".join(reversed(said.split()))) for said in words]
+    status, text = bench.run_on("".join(lines).encode(), "ask", info)
+    answers, place = text.decode("latin-1").split("\n\n")[1:-1], {commit: number for number, commit in enumerate(history.ids)}
+    if status != 0 or len(answers) != 2 * len(pairs):
+        return "status %s and %r" % (status, text[-80:])
+    for pair, walk, told in zip(pairs, answers[::2], answers[1::2]):
+        steps = least_steps(history.parents, *pair)
+        if told != ("no" if steps is None else "yes") or not is_walk(history.parents, pair, steps, walk, place):
+            return "%s, %s steps: %r and %r" % (pair, steps, told, walk[:80])
+    return None
+
+
+def least_steps(parents, first, last):
+    """How many steps a shortest walk from one commit to another has, or None where there is none."""
+    steps, ahead = {first: 0}, [first]
+    for commit in ahead:
+        for parent in parents[commit]:
+            if parent not in steps:
+                steps[parent] = steps[commit] + 1
+                ahead.append(parent)
+    return steps.get(last)
+
+
+def is_walk(parents, pair, steps, answer, place):
+    """Whether an answer is a walk of so many steps between a pair of commits, or says that there is none."""
+    if steps is None:
+        return answer == "none"
+    walk = [place.get(name) for name in answer.split("\n")]
+    ends = [walk[0], walk[-1]]
+    return ends == list(pair) and len(walk) == steps + 1 and all(parent in parents[commit] for commit, parent in zip(walk, walk[1:]))

@@ -18,7 +18,7 @@ pub returns-in-Ok-clause-found : goal.returns-in-Ok-clause-found
 returns-in-Ok-clause-found c = (
   c.in-Some.first.0 ∷ c.in-Some-find.second.0 ∷ [],
   (sym c.in-Some.ensures.scanned, (sym c.in-Some-find.ensures.scanned, tt)),
-  rw c.requires at c.in-Ok.ensures.found,
+  c.in-Ok.ensures.told,
 )
 
 pub returns-in-Err-clause-refused : goal.returns-in-Err-clause-refused
