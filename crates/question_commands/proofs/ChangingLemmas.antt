@@ -1,7 +1,7 @@
 -- What stands after one turn more of others.
 use Rattle.std.proofs.Common.{◌≡◌, ◌∙◌, ◌+◌, ℕ, List, Option, zero, suc, ap, arith, refl, subst}
 use Rattle.graph_folder.specs.Tree.{Tree}
-use Rattle.graph_commands.specs.OpenerAnswer.{MayOpen}
+use Rattle.question_commands.specs.ReadOpening.{MayOpenAsRead}
 use Rattle.question_commands.specs.Asking.{OpensAnew, Reloads, State}
 use Rattle.question_commands.specs.ChangingTrees.{MayOpenAmong, tree_after}
 
@@ -25,15 +25,15 @@ turns_once_more makes left fewer turns later next turn tree =
     next turn tree ∙ later (turn + 1) tree ∙ ap (λ (n : ℕ). makes n tree) count
 
 -- a path was opened anew over what stands after one turn more
-pub reloads_among : (makes : ℕ → Option Tree → Option Tree) (first : Option Tree) (path : List ℕ) (tree : Option Tree)
-    (before after : State) (told : List ℕ) (checked : ℕ) → tree ≡ tree_after makes first after.reloads
-    → after.reloads ≡ before.reloads + 1
-    → OpensAnew (MayOpen tree path before.failures after.failures) before.layers told checked after.layers
-    → Reloads (MayOpenAmong makes first path) before told checked after
-reloads_among makes first path tree before after told checked is counted opens = (
+pub reloads_among : (makes : ℕ → Option Tree → Option Tree) (first : Option Tree) (gives : List ℕ → List ℕ → Type 0)
+    (path : List ℕ) (tree : Option Tree) (before after : State) (told : List ℕ) (checked : ℕ)
+    → tree ≡ tree_after makes first after.reloads → after.reloads ≡ before.reloads + 1
+    → OpensAnew (MayOpenAsRead tree gives path before.failures after.failures) before.layers told checked after.layers
+    → Reloads (MayOpenAmong makes first gives path) before told checked after
+reloads_among makes first gives path tree before after told checked is counted opens = (
   counted,
-  subst (λ (t : Option Tree). OpensAnew (MayOpen t path before.failures after.failures) before.layers told checked after.layers)
-      is opens,
+  subst (λ (t : Option Tree). OpensAnew (MayOpenAsRead t gives path before.failures after.failures) before.layers told checked
+      after.layers) is opens,
 )
 
 -- where nobody changes what stands, it stays

@@ -1,7 +1,7 @@
 -- What stands at each path, where others change it.
 use Rattle.std.specs.Prelude.{ℕ, zero, suc, List, Option}
 use Rattle.graph_folder.specs.Tree.{Tree}
-use Rattle.graph_commands.specs.OpenerAnswer.{MayOpen}
+use Rattle.question_commands.specs.ReadOpening.{MayOpenAsRead}
 use Rattle.question_answers.specs.Taken.{Opener}
 
 -- What the opener may answer each time that a path is opened; the first time has number 0.
@@ -13,6 +13,7 @@ abbrev pub tree_after : (ℕ → Option Tree → Option Tree) → Option Tree �
 tree_after makes tree zero = tree
 tree_after makes tree (suc turns) = makes turns (tree_after makes tree turns)
 
--- what the opener may answer at a path each time, where others have a turn before each time but the first
-abbrev pub MayOpenAmong : (ℕ → Option Tree → Option Tree) → Option Tree → List ℕ → Openings
-MayOpenAmong makes tree path time = MayOpen (tree_after makes tree time) path
+-- what the opener may answer at a path each time, where others have a turn before each time but the first; and each time the
+-- layers of a graph are files that were there, as reads gave them, which others may change while the opener reads
+abbrev pub MayOpenAmong : (ℕ → Option Tree → Option Tree) → Option Tree → (List ℕ → List ℕ → Type 0) → List ℕ → Openings
+MayOpenAmong makes tree gives path time = MayOpenAsRead (tree_after makes tree time) gives path

@@ -1,4 +1,5 @@
 pub mod TakenAnew
+pub mod ReadOpening
 pub mod ChangingTrees
 pub mod Asking
 pub mod Ending

@@ -1,12 +1,14 @@
 //! The command `ask`: many questions about the graph at a path, one a line.
 
-ghost use Rattle.std.specs.Prelude.{◌≡◌, ◌+◌, [], ℕ, List, Option, Ok, IfOk, OnOk, map};
+ghost use Rattle.std.specs.Prelude.{◌≡◌, ◌+◌, [], ℕ, List, Option, Ok, IfErr, IfOk, OnOk, map};
 ghost use Rattle.std.specs.Io.KnownBytes.{Appends, prepend_known};
 ghost use Rattle.std.specs.List.{flat_map};
-ghost use Rattle.graph_commands.specs.OpenerAnswer.{MayOpen};
+ghost use Rattle.gix_commitgraph.specs.Sound.{Sound};
 ghost use Rattle.graph_commands.specs.Text.{◌⧺◌, newline};
 ghost use Rattle.graph_folder.specs.Tree.{Tree};
 ghost use Rattle.graph_history.specs.RightGraph.{plain_options};
+ghost use Rattle.history_commands.specs.Check.{MayRefuseToStart};
+ghost use Rattle.question_commands.specs.ReadOpening.{MayOpenAsRead};
 ghost use Rattle.question_answers.specs.AnsweredLines.{AreAnswered, MayBeTold, StopsAt};
 ghost use Rattle.question_answers.specs.AnsweredLines.{TellsStill};
 ghost use Rattle.question_answers.specs.ReadLines.{AreLinesOf};
@@ -18,13 +20,14 @@ ghost use Rattle.question_commands.specs.Ending.{EndsAsked};
 
 use crate::others::Others;
 use crate::taking::take_anew;
+use gix_commitgraph::opening::open_in;
 use graph_commands::buffer::Buffer;
 use graph_commands::line::WriteFailed;
+use graph_commands::refusal::Refusal;
 use graph_commands::run::refuse;
 use graph_folder::folder::{Folder, ReadError};
 use graph_history::CheckedGraph;
 use history_commands::asker::CheckedAsker;
-use history_commands::opening::open_checked;
 use question_answers::answering::{Next, answer_by};
 use question_answers::turn::{end, write_count, write_refused};
 use question_lines::lines::LineReader;
@@ -59,7 +62,9 @@ struct Ended {
 /// Each answer ends with an empty line, and is flushed with it.
 ///
 /// Others may change what stands at the path while questions are answered: they have a turn before
-/// each time that it is opened anew, and what is opened is what stands there then.
+/// each time that it is opened anew, and what is opened is what stands there then. Where it is not
+/// known what stands there, others may write at any time: each graph that is opened, at first and
+/// for each `reload`, has layers that are files which were there, as reads gave them.
 ///
 /// Where the lowest layers of a graph that is opened anew are those of the graph that stands, with
 /// the same bytes and the same paths, only the commits above them are checked.
@@ -76,14 +81,14 @@ pub fn run_ask<R: Read, T: Folder, E: Others<T>, W: Write>(
     writer: &mut W,
 ) -> Result<Asked, WriteFailed>
     ensures written { IfOk result (EndsAsked
-        (MayAsk (MayOpenAmong (E.makes others.old) (T.tree folder.old) path.now)
+        (MayAsk (MayOpenAmong (E.makes others.old) (T.tree folder.old) T.gives path.now)
         (T.failure_count folder.old) (T.failure_count folder.new)
         (R.remaining reader.old) (R.remaining reader.new))
         (W.contents writer.old) (W.contents writer.new)) }
     ensures tree { (turns : ℕ) × (T.tree folder.new
         ≡ tree_after (E.makes others.old) (T.tree folder.old) turns) }
 {
-    match open_checked(alloc, folder, path) {
+    match open_first(alloc, folder, path) {
         Ok(graph) => {
             write_taken(writer, &graph)?;
             let ended = answer_all(alloc, reader, folder, others, path, writer, graph)?;
@@ -94,6 +99,21 @@ pub fn run_ask<R: Read, T: Folder, E: Others<T>, W: Write>(
             checked: 0,
         }),
     }
+}
+
+/// Opens the graph at the path, and checks it. Others may write meanwhile: the graph is one that
+/// was read, also where its check refuses it.
+fn open_first<T: Folder>(alloc: Global, folder: &mut T, path: &str) -> Result<CheckedGraph, Refusal>
+    ensures opened { IfOk result (λ graph. MayOpenAsRead (T.tree folder.old) T.gives path.now
+        (T.failure_count folder.old) (T.failure_count folder.new) (Ok graph.layers)) }
+    ensures right { IfOk result (λ graph. Sound graph.layers) }
+    ensures options { IfOk result (λ graph. graph.options ≡ plain_options) }
+    ensures refused { IfErr result (MayRefuseToStart (MayOpenAsRead (T.tree folder.old) T.gives
+        path.now (T.failure_count folder.old) (T.failure_count folder.new))) }
+    ensures tree { T.tree folder.new ≡ T.tree folder.old }
+{
+    let graph = open_in(alloc, folder, path)?;
+    Ok(CheckedGraph::new(alloc, graph)?)
 }
 
 /// Writes why the lines ended, if a read failed.
@@ -129,7 +149,7 @@ fn answer_all<R: Read, T: Folder, E: Others<T>, W: Write>(
 ) -> Result<Ended, WriteFailed>
     requires options { graph.options ≡ plain_options }
     ensures answered { IfOk result (λ ended. (turns : List Turn) × (last : State)
-        × AreTurns (MayOpenAmong (E.makes others.old) (T.tree folder.old) path.now)
+        × AreTurns (MayOpenAmong (E.makes others.old) (T.tree folder.old) T.gives path.now)
         (record { layers = graph.layers; failures = T.failure_count folder.old; reloads = 0 })
         last turns
         × (last.failures ≡ T.failure_count folder.new)
@@ -176,7 +196,7 @@ fn answer_lines<R: Read, T: Folder, E: Others<T>, W: Write>(
     requires buffer { buffer.old ≡ [] }
     requires options { graph.options ≡ plain_options }
     ensures answered { IfOk result (λ ended. (turns : List Turn) × (last : State)
-        × AreTurns (MayOpenAmong (E.makes others.old) (T.tree folder.old) path.now)
+        × AreTurns (MayOpenAmong (E.makes others.old) (T.tree folder.old) T.gives path.now)
         (record { layers = graph.layers; failures = T.failure_count folder.old; reloads = 0 })
         last turns
         × (last.failures ≡ T.failure_count folder.new)
@@ -253,8 +273,9 @@ fn reload<T: Folder, E: Others<T>, W: Write>(
 ) -> Result<u32, WriteFailed>
     requires { graph.old.options ≡ plain_options }
     ensures told { IfOk result (λ checked. (told : List ℕ)
-        × OpensAnew (MayOpen (T.tree folder.new) path.now (T.failure_count folder.old)
-        (T.failure_count folder.new)) graph.old.layers told checked graph.new.layers
+        × OpensAnew (MayOpenAsRead (T.tree folder.new) T.gives path.now
+        (T.failure_count folder.old) (T.failure_count folder.new))
+        graph.old.layers told checked graph.new.layers
         × Appends (W.contents writer.old) (W.contents writer.new) (told ⧺ newline)) }
     ensures options { graph.new.options ≡ plain_options }
     ensures tree { T.tree folder.new ≡ E.makes others.old 0 (T.tree folder.old) }

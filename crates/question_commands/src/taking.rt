@@ -1,17 +1,20 @@
 //! The graph at a path, opened anew beside one that stands.
 
 ghost use Rattle.std.specs.Prelude.{◌≡◌, All, IfErr, IfOk, IfSome, IsSomeAnd, IsTrue, MatchOption};
-ghost use Rattle.std.specs.Prelude.{Ok, length, true, ℕ};
+ghost use Rattle.std.specs.Prelude.{Ok, length, map, true, ◌++◌, ℕ};
 ghost use Rattle.std.specs.Option.{ForSome};
 ghost use Rattle.std.specs.Str.{is_utf8};
 ghost use Rattle.std.specs.Str.Lines.{lines};
 ghost use Rattle.graph_format.specs.Layer.{IsOpened};
-ghost use Rattle.graph_commands.specs.OpenerAnswer.{MayOpen, OpensStopping};
+ghost use Rattle.graph_commands.specs.OpenerAnswer.{OpensStopping};
 ghost use Rattle.graph_history.specs.RightGraph.{plain_options};
+ghost use Rattle.graph_layer.specs.LayerOpening.{LayerWasRead};
 ghost use Rattle.graph_layer.specs.OpenAnswer.{failures_after_opening};
 ghost use Rattle.gix_commitgraph.specs.Opening.{chain_opened, file_opened, layer_of_line};
 ghost use Rattle.gix_commitgraph.specs.Opening.{layers_from};
 ghost use Rattle.gix_commitgraph.specs.Paths.{layer_path};
+ghost use Rattle.gix_commitgraph.specs.WasRead.{ChainWasRead, FileWasRead, PathWasRead};
+ghost use Rattle.question_commands.specs.ReadOpening.{MayOpenAsRead, OpensAsRead};
 ghost use Rattle.question_commands.specs.TakenAnew.{IsDeviceOrMemory, IsThisGraph, OpensAbove};
 ghost use Rattle.question_commands.specs.TakenAnew.{PutsAbove, Takes, TakesBy, layers_with};
 ghost use Rattle.question_commands.specs.TakenAnew.{lines_opened};
@@ -37,12 +40,13 @@ type Checked = Result<u32, VerifyError<NoFault>>;
 ///
 /// Its lowest layers are not checked again as far as they are those of the graph that stands. If
 /// all layers of that graph are among them, these are only compared with their files, and stay.
+/// Others may write meanwhile: each layer of the new graph, also one that stays, is a file that was
+/// there, as a read of its path gave it in this call.
 ///
 /// # Errors
 ///
 /// `Open` where no graph was opened, and `Verify` where the check refused it. The graph is the one
 /// of before then.
-#[tactic(auto, using(crate::proofs::TakingLemmas::taken_path))]
 pub fn take_anew<T: Folder>(
     alloc: Global,
     folder: &mut T,
@@ -50,8 +54,10 @@ pub fn take_anew<T: Folder>(
     graph: &mut CheckedGraph,
 ) -> Result<u32, Refusal>
     requires { graph.old.options ≡ plain_options }
-    ensures taken { Takes (MayOpen (T.tree folder.old) path.now (T.failure_count folder.old)
-        (T.failure_count folder.new)) graph.old.layers graph.new.layers result }
+    ensures taken { Takes (MayOpenAsRead (T.tree folder.old) T.gives path.now
+        (T.failure_count folder.old) (T.failure_count folder.new))
+        graph.old.layers graph.new.layers result }
+    ensures given { IfOk result (λ _. PathWasRead T.gives path.now graph.new.layers) }
     ensures options { graph.new.options ≡ plain_options }
     ensures tree { T.tree folder.new ≡ T.tree folder.old }
 {
@@ -70,8 +76,10 @@ struct Taking<'g> {
 impl Opener for Taking<'_> {
     ghost use Rattle.std.specs.Prelude.{◌≡◌, ℕ};
     ghost use Rattle.gix_commitgraph.specs.Opening.{chain_opened, file_opened};
+    ghost use Rattle.gix_commitgraph.specs.WasRead.{ChainWasRead, FileWasRead};
     ghost use Rattle.graph_commands.specs.OpenerAnswer.{OpensStopping};
     ghost use Rattle.graph_history.specs.RightGraph.{plain_options};
+    ghost use Rattle.question_commands.specs.ReadOpening.{OpensAsRead};
     ghost use Rattle.question_commands.specs.TakenAnew.{TakesBy};
 
     type Opened = Checked;
@@ -82,13 +90,13 @@ impl Opener for Taking<'_> {
 
     ghost is_ready = { λ taking. taking.graph.now.options ≡ plain_options };
 
-    ghost of_file = { λ _ known _ path old new before after.
-        TakesBy (OpensStopping known (λ tree. file_opened tree path) old new)
-        before.graph.now.layers after.graph.now.layers };
+    ghost of_file = { λ _ known gives path old new before after.
+        TakesBy (OpensAsRead (OpensStopping known (λ tree. file_opened tree path) old new)
+        (FileWasRead gives path)) before.graph.now.layers after.graph.now.layers };
 
-    ghost of_chain = { λ _ known _ path old new before after.
-        TakesBy (OpensStopping known (λ tree. chain_opened tree path) old new)
-        before.graph.now.layers after.graph.now.layers };
+    ghost of_chain = { λ _ known gives path old new before after.
+        TakesBy (OpensAsRead (OpensStopping known (λ tree. chain_opened tree path) old new)
+        (ChainWasRead gives path)) before.graph.now.layers after.graph.now.layers };
 
     fn file<T: Folder>(
         &mut self,
@@ -117,8 +125,9 @@ fn take_file<T: Folder>(
     graph: &mut CheckedGraph,
 ) -> Result<Checked, OpenError>
     requires { graph.old.options ≡ plain_options }
-    ensures taken { TakesBy (OpensStopping (T.tree folder.old) (λ tree.
-        file_opened tree path.now) (T.failure_count folder.old) (T.failure_count folder.new))
+    ensures taken { TakesBy (OpensAsRead (OpensStopping (T.tree folder.old)
+        (λ tree. file_opened tree path.now) (T.failure_count folder.old)
+        (T.failure_count folder.new)) (FileWasRead T.gives path.now))
         graph.old.layers graph.new.layers result }
     ensures options { graph.new.options ≡ plain_options }
     ensures tree { T.tree folder.new ≡ T.tree folder.old }
@@ -135,8 +144,9 @@ fn take_chain<T: Folder>(
     graph: &mut CheckedGraph,
 ) -> Result<Checked, OpenError>
     requires { graph.old.options ≡ plain_options }
-    ensures taken { TakesBy (OpensStopping (T.tree folder.old) (λ tree.
-        chain_opened tree path.now) (T.failure_count folder.old) (T.failure_count folder.new))
+    ensures taken { TakesBy (OpensAsRead (OpensStopping (T.tree folder.old)
+        (λ tree. chain_opened tree path.now) (T.failure_count folder.old)
+        (T.failure_count folder.new)) (ChainWasRead T.gives path.now))
         graph.old.layers graph.new.layers result }
     ensures options { graph.new.options ≡ plain_options }
     ensures tree { T.tree folder.new ≡ T.tree folder.old }
@@ -192,6 +202,8 @@ fn open_above<T: Folder>(
     requires { All IsOpened standing.now }
     ensures opens { ForSome (T.tree folder.old) (λ tree.
         OpensAbove (chain_opened tree path.now) standing.now result) }
+    ensures given { IfOk result (λ above. IfSome above (λ files.
+        ChainWasRead T.gives path.now (standing.now ++ files.items))) }
     ensures tree { T.tree folder.new ≡ T.tree folder.old }
     ensures failures { T.failure_count folder.new
         ≡ failures_after_opening result (T.failure_count folder.old) }
@@ -212,6 +224,11 @@ fn open_lines_above<T: Folder>(
     requires { All IsOpened standing.now }
     ensures opens { ForSome (T.tree folder.old) (λ tree.
         OpensAbove (lines_opened tree path.now (lines text.now)) standing.now result) }
+    ensures named { IfOk result (λ above. IfSome above (λ files.
+        map (λ layer. layer.path) (standing.now ++ files.items)
+        ≡ map (layer_path path.now) (lines text.now))) }
+    ensures given { IfOk result (λ above. IfSome above (λ files.
+        All (LayerWasRead T.gives) (standing.now ++ files.items))) }
     ensures tree { T.tree folder.new ≡ T.tree folder.old }
     ensures failures { T.failure_count folder.new
         ≡ failures_after_opening result (T.failure_count folder.old) }
@@ -258,6 +275,11 @@ fn are_lowest<T: Folder>(
     ensures lowest { ForSome (T.tree folder.old) (λ tree. IfOk result (λ lowest. IsTrue lowest
         → layers_from tree path.now 0 lines.old
         ≡ layers_with standing.now tree path.now (length standing.now) lines.new)) }
+    ensures named { IfOk result (λ lowest. IsTrue lowest
+        → map (layer_path path.now) lines.old
+        ≡ map (λ layer. layer.path) standing.now ++ map (layer_path path.now) lines.new) }
+    ensures given { IfOk result (λ lowest. IsTrue lowest
+        → All (LayerWasRead T.gives) standing.now) }
     ensures errors { IfErr result IsDeviceOrMemory }
     ensures tree { T.tree folder.new ≡ T.tree folder.old }
     ensures failures { T.failure_count folder.new
@@ -285,6 +307,9 @@ fn is_file_of<T: Folder>(
     requires { IsOpened file.now }
     ensures same { ForSome (T.tree folder.old) (λ tree. IfOk result (λ same. IsTrue same
         → (i : ℕ) → Ok file.now ≡ layer_of_line tree path.now i line.now)) }
+    ensures named { IfOk result (λ same. IsTrue same
+        → file.now.path ≡ layer_path path.now line.now) }
+    ensures given { IfOk result (λ same. IsTrue same → LayerWasRead T.gives file.now) }
     ensures errors { IfErr result IsDeviceOrMemory }
     ensures tree { T.tree folder.new ≡ T.tree folder.old }
     ensures failures { T.failure_count folder.new

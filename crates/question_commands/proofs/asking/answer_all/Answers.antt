@@ -15,7 +15,8 @@ returns-in_default-clause-answered g c =
     let input = g.R.Read.remaining c.args.reader.now in (
       [],
       first,
-      turns_none (MayOpenAmong (g.E.Others.makes c.args.others.now) (g.T.Folder.tree c.args.folder.now) c.args.path.now) first,
+      turns_none (MayOpenAmong (g.E.Others.makes c.args.others.now) (g.T.Folder.tree c.args.folder.now) g.T.Folder.gives
+          c.args.path.now) first,
       refl,
       lines_failed input input input [] OutOfMemory (reads_none input) (λ is. cc),
       Appends-nil (g.W.Write.contents c.args.writer.now),

@@ -15,7 +15,7 @@ loop-init g c =
     let input = g.R.Read.remaining c.args.reader.now in
     let old = g.W.Write.contents c.args.writer.now in
     let makes = g.E.Others.makes c.args.others.now in
-    let opens : Openings = MayOpenAmong makes (g.T.Folder.tree c.args.folder.now) c.args.path.now in
+    let opens : Openings = MayOpenAmong makes (g.T.Folder.tree c.args.folder.now) g.T.Folder.gives c.args.path.now in
     let first : State =
     record { layers = c.args.graph.layers; failures = g.T.Folder.failure_count c.args.folder.now; reloads = 0 } in
     let same : prepend_known c.args.lines.now.ahead input ≡ input =
@@ -38,7 +38,7 @@ pub loop-preserved : goal.loop-preserved
 loop-preserved g c =
     let makes = g.E.Others.makes c.args.others.now in
     let tree = g.T.Folder.tree c.args.folder.now in
-    let opens : Openings = MayOpenAmong makes tree c.args.path.now in
+    let opens : Openings = MayOpenAmong makes tree g.T.Folder.gives c.args.path.now in
     let failures = g.T.Folder.failure_count c.loop.folder in
     let before = c.loop.invariant.answered in
     let standing : State = record { layers = c.loop.graph.layers; failures = failures; reloads = before.1 } in
@@ -63,7 +63,8 @@ loop-preserved g c =
         proceeds_more opens _ standing after _ over.0 _ _ _ _ (before.0 + 0) checked
             (proceeds_more opens _ standing standing _ _ over.0 _ _ _ before.0 0 before.2 turns.1)
             (reloads_line opens standing after asks.0 told.0 checked over.0 _ _ _ asks.1 asks.2
-            (reloads_among makes tree c.args.path.now now standing after told.0 checked changed refl told.1) told.2),
+            (reloads_among makes tree g.T.Folder.gives c.args.path.now now standing after told.0 checked changed refl told.1)
+            told.2),
         omega (arith, before.3, c.saturating_add-checked.ensures),
         changed,
         turns_once_more makes (g.E.Others.makes c.loop.others) (g.E.Others.makes c.reload.new.others) before.1 before.5
@@ -87,7 +88,7 @@ returns-in_err-taken-in-Reload-clause-tree g c =
 pub returns-in-End-clause-answered : goal.returns-in-End-clause-answered
 returns-in-End-clause-answered g c =
     let tree = g.T.Folder.tree c.args.folder.now in
-    let opens : Openings = MayOpenAmong (g.E.Others.makes c.args.others.now) tree c.args.path.now in
+    let opens : Openings = MayOpenAmong (g.E.Others.makes c.args.others.now) tree g.T.Folder.gives c.args.path.now in
     let failures = g.T.Folder.failure_count c.loop.folder in
     let before = c.loop.invariant.answered in
     let standing : State = record { layers = c.loop.graph.layers; failures = failures; reloads = before.1 } in
@@ -102,7 +103,7 @@ returns-in-End-clause-answered g c =
 pub returns-in-Failed-clause-answered : goal.returns-in-Failed-clause-answered
 returns-in-Failed-clause-answered g c =
     let tree = g.T.Folder.tree c.args.folder.now in
-    let opens : Openings = MayOpenAmong (g.E.Others.makes c.args.others.now) tree c.args.path.now in
+    let opens : Openings = MayOpenAmong (g.E.Others.makes c.args.others.now) tree g.T.Folder.gives c.args.path.now in
     let failures = g.T.Folder.failure_count c.loop.folder in
     let before = c.loop.invariant.answered in
     let standing : State = record { layers = c.loop.graph.layers; failures = failures; reloads = before.1 } in

@@ -10,7 +10,7 @@ use Rattle.question_commands.proofs.asking.answer_lines.Given as goal
 abbrev pub invariant-loop : goal.invariant-loop
 invariant-loop g l = record {
   answered : (checked : ℕ) × (reloads : ℕ)
-      × Proceeds (MayOpenAmong (g.E.Others.makes l.fn.others) (g.T.Folder.tree l.fn.folder) l.path)
+      × Proceeds (MayOpenAmong (g.E.Others.makes l.fn.others) (g.T.Folder.tree l.fn.folder) g.T.Folder.gives l.path)
       (record { layers = l.fn.graph.layers; failures = g.T.Folder.failure_count l.fn.folder; reloads = 0 })
       (record { layers = l.graph.layers; failures = g.T.Folder.failure_count l.folder; reloads = reloads })
       (g.R.Read.remaining l.fn.reader) (prepend_known l.lines.ahead (g.R.Read.remaining l.reader))
