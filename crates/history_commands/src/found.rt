@@ -25,8 +25,9 @@ use graph_commands::refusal::Refusal;
 use graph_history::{Checked, Comparer, Comparison, Searcher};
 use std::alloc::{AllocError, Global};
 
-/// Whether the commit with the first id is an ancestor of the one with the second, or the same. From
-/// the second question on, the search goes by corrected dates too, where the graph has right ones.
+/// Whether the commit with the first id is an ancestor of the one with the second, or the same.
+/// From the second question on, the search goes by corrected dates too, where the graph has right
+/// ones.
 /// The error is `Walk`, where an allocation failed; both are there then.
 pub(crate) fn is_ancestor(
     alloc: Global,
