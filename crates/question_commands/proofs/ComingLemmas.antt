@@ -1,5 +1,5 @@
 -- What comes of a path, from what comes of the files and the chain folders there that an opener tries.
-use Rattle.std.proofs.Common.{◌≡◌, ℕ, List, Option, Result, inl, inr}
+use Rattle.std.proofs.Common.{ℕ, List, Option, Result, inl, inr}
 use Rattle.graph_folder.specs.Tree.{Tree}
 use Rattle.graph_layer.specs.declared.opening.error.OpenError.{OpenError}
 use Rattle.gix_commitgraph.specs.ByStanding.{InfoComes, PathComes, StandingComes}

@@ -1,5 +1,4 @@
 -- The lines of the text that was read name the layers, which were read.
-use Rattle.std.proofs.Common.{rules}
 use Rattle.gix_commitgraph.specs.Paths.{chain_path}
 use Rattle.question_commands.proofs.TakingLemmas.{chain_above}
 use Rattle.question_commands.proofs.taking.open_above.Goals as goal
