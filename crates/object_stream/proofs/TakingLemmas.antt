@@ -5,7 +5,8 @@ use Rattle.std.proofs.Common.{subst, inl, inr, ⊎_elim, Option, Some, None, IsT
 use Rattle.std.specs.Prelude.{◌↔◌, IfSome, nat_lt, if◌then◌else◌}
 use Rattle.std.specs.Io.KnownBytes.{Keeps, IsAtEnd, prepend_known}
 use Rattle.std.proofs.lemmas.Bool.{cases_lt, lt-ltb, le-ltb}
-use Rattle.std.proofs.lemmas.List.{length-append, length-take-le, take_all, take-append-le, get_or_append_left}
+use Rattle.std.proofs.lemmas.List.{get_or-take, length-append, length-take, length-take-le, take_all, take-append-le}
+use Rattle.std.proofs.lemmas.List.{get_or_append_left}
 use Rattle.hex.specs.Hex.{encode_lower}
 use Rattle.gix_hash_core.specs.Kind.{id_len}
 use Rattle.gix_hash_core.specs.declared.kind.Kind.{Kind}
@@ -40,12 +41,12 @@ pub of_all : (P : List ℕ → Type 0) (before : Option (List ℕ)) → ((bytes 
 of_all P None h = tt
 of_all P (Some bytes) h = h bytes
 
--- no test of more than there is succeeds
-pub not_enough : (enough : Bool) (n m : ℕ) → (IsTrue enough ↔ (n < m)) → m ≤ n → enough ≡ false
-not_enough true n m tells few = absurd (omega (arith, tells.0 refl, few))
-not_enough false n m tells few = refl
+-- where a line ends, a line feed is among the first bytes
+pub no_line_ends : (view : List ℕ) (end : ℕ) → IsLineEnd view end → ¬ HasNoFeed (take longest_line view)
+no_line_ends view end is none =
+    none end 0 (omega (arith, is.within, is.short, length-take 93 view)) (get_or-take 93 view end 0 is.short ∙ is.feed)
 
--- nor are there more where a test fails
+-- there are no more where a test fails
 pub not_more : (enough : Bool) (n m : ℕ) → (IsTrue enough ↔ (n < m)) → enough ≡ false → m ≤ n
 not_more enough n m tells refused = ⊎_elim
     (λ (more : n < m). let yes : enough ≡ true = tells.1 more in absurd (cc (yes, refused)))
@@ -63,14 +64,13 @@ module _ (kind : Kind) (type : ObjectType) (expected : Option (List ℕ)) (befor
 
   module _ (known : Option (List ℕ)) (view : List ℕ) (kept : Keeps before (prepend_known view known)) where
     -- no line ends in time
-    pub no_line_stop : (enough : Bool) → HasNoFeed (take longest_line view) → (IsTrue enough ↔ (0 + 92 < length view))
-        → (enough ≡ false → IsAtEnd known)
+    pub no_line_stop : HasNoFeed (take longest_line view) → (length view < longest_line → IsAtEnd known)
         → Stops (Entry (if nat_lt (length view) longest_line then error.Ends else error.NoEntry))
-    no_line_stop enough none tells ended = ⊎_elim
+    no_line_stop none ended = ⊎_elim
         (λ (few : length view < 93).
         let test : nat_lt (length view) 93 ≡ true = lt-ltb (length view) 93 few in
         rw test (of_known (λ bytes. MayStop kind type expected bytes (Entry error.Ends)) before known view kept (λ more e.
-        let end : more ≡ [] = at_end known more (ended (not_enough enough 92 (length view) tells (omega (arith, few)))) e in
+        let end : more ≡ [] = at_end known more (ended few) e in
         let all : view ++ more ≡ view = ap (λ l. view ++ l) end ∙ append-nil view in
         rw all (inl (rw (take_all 93 view (omega (arith, few))) at none, few)))))
         (λ (many : 93 ≤ length view).

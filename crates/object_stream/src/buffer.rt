@@ -2,12 +2,14 @@
 
 ghost use Rattle.std.specs.Prelude.{◌≡◌, ◌↔◌, ◌<◌, ◌≤◌, ◌+◌, ◌-◌, [], drop, length};
 ghost use Rattle.std.specs.Prelude.{IsTrue, IfOk, IfErr, OnErr, OnOk, false};
-ghost use Rattle.std.specs.Prelude.{slice_range, slice_set};
+ghost use Rattle.std.specs.Prelude.{slice_range, slice_set, take};
 ghost use Rattle.std.specs.Io.KnownBytes.{Keeps, IsAtEnd, prepend_known};
 ghost use Rattle.std.specs.Io.{StartsWith};
+ghost use Rattle.object_stream.specs.BatchEntry.{HasNoFeed, longest_line};
 ghost use Rattle.object_stream.specs.Reading.{IsFillError};
 
 use crate::error::ReadFailure;
+use crate::line::{LINE, line_end};
 use std::alloc::{AllocError, Global};
 use std::io::Read;
 use std::marker::Model;
@@ -115,6 +117,41 @@ impl Buffer {
             }
         }
         Ok(true)
+    }
+
+    /// Whether the first line does not end among the bytes, which are fewer than a line may have.
+    fn lacks_line(&self) -> bool
+        ensures few { IsTrue result → length self.now < longest_line }
+        ensures lacks { HasNoFeed (take longest_line self.now) → length self.now < longest_line
+            → IsTrue result }
+    {
+        let bytes = self.bytes();
+        if bytes.len() >= LINE {
+            return false;
+        }
+        match line_end(bytes) {
+            Some(_) => false,
+            None => true,
+        }
+    }
+
+    /// Reads until the first line stands there, or as many bytes as a line may have, or the reader
+    /// ends: a pipe may have no more than the line before it is asked for more. What is there and
+    /// what the reader has left, together, stay the same, unless an error comes, as by
+    /// [`fill`](Buffer::fill).
+    pub(crate) fn fill_line<R: Read>(&mut self, reader: &mut R) -> Result<(), ReadFailure>
+        ensures kept { OnOk result (Keeps (prepend_known self.old (R.remaining reader.old))
+            (prepend_known self.new (R.remaining reader.new))) }
+        ensures end { OnOk result (HasNoFeed (take longest_line self.new)
+            → length self.new < longest_line → IsAtEnd (R.remaining reader.new)) }
+        ensures error { IfErr result (IsFillError longest_line) }
+    {
+        while self.lacks_line() {
+            if !self.read_more(reader)? {
+                return Ok(());
+            }
+        }
+        Ok(())
     }
 
     /// Reads some bytes, or answers that there are none.

@@ -108,7 +108,7 @@ fn next_line<R: Read>(
         IfSome (prepend_known buffer.old (R.remaining reader.old))
         (λ bytes. MayStop kind object_type expected.now bytes error)) }
 {
-    buffer.fill(reader, 0, LINE - 1)?;
+    buffer.fill_line(reader)?;
     let bytes = buffer.bytes();
     if let Some(told) = own_line(kind, object_type, expected, bytes) {
         return Ok(told);
