@@ -120,3 +120,12 @@ kept_taken asked taken numbers kept some = record {
   distinct = kept.distinct;
   numbered = kept.numbered;
 }
+
+-- none is kept
+pub kept_none : (numbers : tree.BTreeMap (List ℕ) ℕ) → numbers.entries ≡ [] → AreKept [] 0 numbers
+kept_none numbers none = record {
+  within = omega arith;
+  few = omega arith;
+  distinct = λ i j id one other. absurd (none-some id one);
+  numbered = λ id. rw none (λ (contains : Contains [] id). absurd (omega (arith, contains.1)));
+}

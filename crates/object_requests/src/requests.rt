@@ -1,6 +1,6 @@
 //! Asking for objects, and taking their entries.
 
-ghost use Rattle.std.specs.Prelude.{◌≡◌, ◌↔◌, ◌+◌, ◌^◌, ◌<◌, ◌≤◌, ◌*◌, ◌∷◌, ◌++◌};
+ghost use Rattle.std.specs.Prelude.{◌≡◌, ◌≢◌, ◌↔◌, ◌+◌, ◌^◌, ◌<◌, ◌≤◌, ◌*◌, ◌∷◌, ◌++◌};
 ghost use Rattle.std.specs.Prelude.{[], false, true, length};
 ghost use Rattle.std.specs.Prelude.{Contains, Err, IfErr, IfOk, IfSome, IsTrue, MatchOption, OnErr};
 ghost use Rattle.std.specs.Prelude.{OnOk, Some, drop, slice_get, take};
@@ -89,6 +89,28 @@ impl Requests {
         })
     }
 
+    /// The kind of the ids.
+    pub fn kind(&self) -> Kind
+        ensures { result ≡ self.now.kind }
+    {
+        self.kind
+    }
+
+    /// How many objects were asked for that were not forgotten.
+    pub fn num_asked(&self) -> usize
+        ensures { result ≡ length self.now.asked }
+    {
+        self.asked.len()
+    }
+
+    /// Of how many of them the entries were taken.
+    pub fn num_taken(&self) -> usize
+        ensures count { result ≡ self.now.taken }
+        ensures within { result ≤ length self.now.asked }
+    {
+        self.taken
+    }
+
     /// How many objects were asked for whose entries were not taken.
     pub fn num_waiting(&self) -> usize
         ensures count { result ≡ length (waiting self.now) }
@@ -146,6 +168,16 @@ impl Requests {
         Ok(true)
     }
 
+    /// Forgets all objects, whose entries were taken, so that each may be asked for again.
+    pub fn forget(&mut self)
+        requires { self.old.taken ≡ length self.old.asked }
+        ensures { self.new ≡ record self.old { asked = []; taken = 0 } }
+    {
+        self.asked.clear();
+        self.numbers.clear();
+        self.taken = 0;
+    }
+
     /// Notes that an object is asked for, and answers whether it was not before. The error is that
     /// an allocation failed.
     fn note(&mut self, id: ObjectId) -> Result<bool, AskError>
@@ -186,7 +218,8 @@ impl Requests {
             Consumes (prepend_known self.old.ahead (R.remaining reader.old))
             (prepend_known self.new.ahead (R.remaining reader.new))
             (object_entry self.old.type id self.new.contents)) }
-        ensures written { OnOk result (Keeps (W.contents writer.old) (W.contents writer.new)) }
+        ensures written { result ≢ Err RequestError.WriteFailed
+            → Keeps (W.contents writer.old) (W.contents writer.new) }
         ensures refused { IfErr result (λ error.
             IfSome (prepend_known self.old.ahead (R.remaining reader.old))
             (λ bytes. MayRefuse self.old bytes error)) }
