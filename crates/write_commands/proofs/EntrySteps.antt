@@ -15,7 +15,7 @@ use Rattle.object_stream.specs.declared.error.ReadFailure.TheVariants as failure
 use Rattle.object_stream.specs.declared.error.StreamError.{StreamError}
 use Rattle.object_stream.specs.declared.error.StreamError.TheVariants as stream
 use Rattle.object_stream.proofs.EntryLemmas.{both_weaker}
-use Rattle.object_stream.proofs.TakingLemmas.{at_end, not_enough, of_known}
+use Rattle.object_stream.proofs.TakingLemmas.{at_end, of_known}
 use Rattle.object_stream.specs.declared.object_type.ObjectType.TheVariants as object
 use Rattle.graph_writer.specs.declared.commit.NewCommit.{NewCommit}
 use Rattle.write_commands.specs.NewEntries.{IsNoCommit, IsReadFailure, MayStopAt, TakesCommit, commits_error_at, commits_error_of}
@@ -30,6 +30,11 @@ kind_kept view more long =
     le-leb 64 (length (view ++ more)) (omega (arith, length-append view more, long)) in
     let some : nat_le 64 (length view) ≡ true = le-leb 64 (length view) long in
     rw (all, some, take-append-le 64 view more long) refl
+
+-- no test of more than there is succeeds
+not_enough : (enough : Bool) (n m : ℕ) → (IsTrue enough ↔ (n < m)) → m ≤ n → enough ≡ false
+not_enough true n m tells few = absurd (omega (arith, tells.0 refl, few))
+not_enough false n m tells few = refl
 
 pub kind_read : (before known : Option (List ℕ)) (view : List ℕ) (enough : Bool) → Keeps before (prepend_known view known)
     → (IsTrue enough ↔ (0 + 63 < length view)) → (enough ≡ false → IsAtEnd known)
