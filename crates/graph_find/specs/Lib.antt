@@ -1,4 +1,5 @@
 pub mod ReadHead
+pub mod PartsRead
 pub mod Bucket
 pub mod Finding
 pub mod LayerFinding

@@ -5,6 +5,7 @@ ghost use Rattle.std.specs.List.{AllZip};
 ghost use Rattle.std.specs.Str.Lines.{lines};
 ghost use Rattle.graph_folder.specs.Failures.{failures_after};
 ghost use Rattle.graph_find.specs.ChainHeads.{AreHeadsOfChain, IsHeadOfLine, SayGraph};
+ghost use Rattle.graph_find.specs.PartsRead.{HeadsWereRead, LineWasRead};
 
 use crate::head::Head;
 use crate::reading::read_head;
@@ -38,6 +39,8 @@ pub fn read_layers<T: Folder>(
 ) -> Result<Option<Vec<ChainLayer>>, ReadError>
     ensures heads { IfOk result (λ answer. IfSome answer (λ layers.
         AreHeadsOfChain (T.tree folder.old) path.now layers.items)) }
+    ensures given { IfOk result (λ answer. IfSome answer (λ layers.
+        HeadsWereRead T.gives T.gives_part path.now layers.items)) }
     ensures tree { T.tree folder.new ≡ T.tree folder.old }
     ensures failures { T.failure_count folder.new
         ≡ failures_after result (T.failure_count folder.old) }
@@ -56,6 +59,8 @@ fn read_lines<T: Folder>(
 ) -> Result<Option<Vec<ChainLayer>>, ReadError>
     ensures heads { IfOk result (λ answer. IfSome answer (λ layers.
         AllZip (IsHeadOfLine (T.tree folder.old) path.now) (lines text.now) layers.items)) }
+    ensures given { IfOk result (λ answer. IfSome answer (λ layers.
+        AllZip (LineWasRead T.gives_part path.now) (lines text.now) layers.items)) }
     ensures tree { T.tree folder.new ≡ T.tree folder.old }
     ensures failures { T.failure_count folder.new
         ≡ failures_after result (T.failure_count folder.old) }
@@ -79,6 +84,8 @@ fn read_line<T: Folder>(
 ) -> Result<Option<ChainLayer>, ReadError>
     ensures head { IfOk result (λ answer. IfSome answer
         (IsHeadOfLine (T.tree folder.old) path.now line.now)) }
+    ensures given { IfOk result (λ answer. IfSome answer
+        (LineWasRead T.gives_part path.now line.now)) }
     ensures tree { T.tree folder.new ≡ T.tree folder.old }
     ensures failures { T.failure_count folder.new
         ≡ failures_after result (T.failure_count folder.old) }

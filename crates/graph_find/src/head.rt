@@ -1,6 +1,7 @@
 //! The first bytes of a file.
 
-ghost use Rattle.std.specs.Prelude.{◌≡◌, ◌<◌, ◌≤◌, ℕ, List, length, slice_index, IfSome, IsTrue};
+ghost use Rattle.std.specs.Prelude.{◌≡◌, ◌<◌, ◌≤◌, ℕ, List, length, slice_index, take, IfSome};
+ghost use Rattle.std.specs.Prelude.{IsTrue};
 ghost use Rattle.graph_format.specs.Format.{fan_of};
 ghost use Rattle.graph_format.specs.Head.{BeginsWith};
 ghost use Rattle.graph_find.specs.ReadHead.{IsHead, LieInOrder, IsBucketSpan};
@@ -37,6 +38,8 @@ pub(crate) fn head_of(front: Vec<u8>, len: usize) -> Option<Head>
     ensures head { IfSome result IsHead }
     ensures begins { IfSome result (λ head. (file : List ℕ) → BeginsWith file front.items len
         → BeginsWith file head.front.items head.len) }
+    ensures first { IfSome result (λ head. (head.len ≡ len)
+        × (take (length head.front.items) front.items ≡ head.front.items)) }
 {
     let mut front = front;
     let Ok(Some(first)) = layout_of_head(&front, len) else {

@@ -6,6 +6,7 @@ ghost use Rattle.std.specs.Option.{ForSome};
 ghost use Rattle.graph_folder.specs.Tree.{file_at};
 ghost use Rattle.graph_folder.specs.Failures.{failures_after};
 ghost use Rattle.graph_format.specs.Head.{BeginsWith};
+ghost use Rattle.graph_find.specs.PartsRead.{BytesWereRead, HeadWasRead};
 ghost use Rattle.graph_find.specs.ReadHead.{IsHead};
 
 use crate::head::{Head, head_of};
@@ -30,6 +31,8 @@ pub fn read_head<T: Folder>(
     ensures begins { ForSome (T.tree folder.old) (λ tree.
         IfOk result (λ answer. IfSome answer (λ head. IsSomeAnd (file_at tree path.now) (λ file.
         BeginsWith file head.front.items head.len)))) }
+    ensures given { IfOk result (λ answer.
+        IfSome answer (HeadWasRead T.gives_part path.now)) }
     ensures not_opened { ForSome (T.tree folder.old) (λ tree.
         IsErrOf result ReadError.NotOpened → file_at tree path.now ≡ None) }
     ensures tree { T.tree folder.new ≡ T.tree folder.old }
@@ -59,6 +62,8 @@ pub fn read_range<T: Folder>(
     ensures part { ForSome (T.tree folder.old) (λ tree.
         IfOk result (λ answer. IfSome answer (λ bytes. IsSomeAnd (file_at tree path.now) (λ file.
         slice_range file start (start + len) ≡ bytes.items)))) }
+    ensures given { IfOk result (λ answer. IfSome answer (λ bytes.
+        BytesWereRead T.gives_part path.now file_len start bytes.items)) }
     ensures not_opened { ForSome (T.tree folder.old) (λ tree.
         IsErrOf result ReadError.NotOpened → file_at tree path.now ≡ None) }
     ensures tree { T.tree folder.new ≡ T.tree folder.old }

@@ -62,7 +62,7 @@ module _ (old new : Pieces) (is : KeepsSame old new) where
   same-there (Block number) b keeps = (keeps.0, (is.blocks number keeps.0).1 keeps.1, keeps.2)
   same-there (Alone index) b keeps = (keeps.0, rw is.alone keeps.1, rw (is.bytes, is.series) keeps.2)
 
-  same-back : (s : Stretch) (b : List ℕ) → HasStretch new s b → HasStretch old s b
+  pub same-back : (s : Stretch) (b : List ℕ) → HasStretch new s b → HasStretch old s b
   same-back (Block number) b keeps = (keeps.0, (is.blocks number keeps.0).0 keeps.1, keeps.2)
   same-back (Alone index) b keeps = (keeps.0, rw is.alone at keeps.1, rw (is.bytes, is.series) at keeps.2)
 

@@ -1,5 +1,6 @@
 pub mod BlockLemmas
 pub mod LayerPartLemmas
+pub mod GivenLemmas
 pub mod ZipLemmas
 pub mod GraphPartLemmas
 pub mod OpeningLemmas

@@ -22,7 +22,7 @@ use Rattle.graph_find.proofs.SearchedLemmas.{some-layers}
 use Rattle.std.specs.Str.Lines.{lines}
 use Rattle.graph_parts.specs.PartFiles.{commits_in_all}
 use Rattle.graph_parts.specs.Shown.{AreOpened, ArePartsOf, AreUnread, Shows, commits_of_part}
-use Rattle.graph_parts.specs.ShownLayer.{IsLayerParts, ShowsAll, ShowsLayer}
+use Rattle.graph_parts.specs.ShownLayer.{IsLayerParts, KeepsHeadAlone, ShowsAll, ShowsLayer}
 use Rattle.graph_parts.specs.declared.layer.LayerParts.{LayerParts}
 use Rattle.graph_parts.specs.declared.parts.GraphParts.{GraphParts}
 use Rattle.graph_parts.proofs.GraphPartLemmas.{count-files}
@@ -126,6 +126,7 @@ pub record FilesSplit (files : List ChainLayer) (parts : List LayerParts) (left 
   pub heads : All (λ (file : ChainLayer). IsHead file.head) left
   pub each : All IsLayerParts parts
   pub all : All ShowsAll parts
+  pub none : All KeepsHeadAlone parts
 
 pub files-none : (files left : List ChainLayer) (parts : List LayerParts) → All (λ (file : ChainLayer). IsHead file.head) files
     → left ≡ files → parts ≡ [] → FilesSplit files parts left
@@ -134,17 +135,19 @@ files-none files left parts heads all none = record {
   heads = subst (λ (fs : List ChainLayer). All (λ (f : ChainLayer). IsHead f.head) fs) (sym all) heads;
   each = subst (All IsLayerParts) (sym none) (All-nil IsLayerParts);
   all = subst (All ShowsAll) (sym none) (All-nil ShowsAll);
+  none = subst (All KeepsHeadAlone) (sym none) (All-nil KeepsHeadAlone);
 }
 
 pub files-push : (files left rest : List ChainLayer) (parts more : List LayerParts) (part : LayerParts) (file : ChainLayer)
     → FilesSplit files parts left → left ≡ file ∷ rest → more ≡ parts ++ part ∷ [] → part.file ≡ file → IsLayerParts part
-    → ShowsAll part → FilesSplit files more rest
-files-push files left rest parts more part file split cut pushed same right shows = record {
+    → ShowsAll part → KeepsHeadAlone part → FilesSplit files more rest
+files-push files left rest parts more part file split cut pushed same right shows alone = record {
   split = split-pushed parts part file left rest files more pushed same cut split.split;
   heads = All-tail (λ (f : ChainLayer). IsHead f.head) file rest
       (subst (λ (fs : List ChainLayer). All (λ (f : ChainLayer). IsHead f.head) fs) cut split.heads);
   each = subst (All IsLayerParts) (sym pushed) (All-push IsLayerParts parts part split.each right);
   all = subst (All ShowsAll) (sym pushed) (All-push ShowsAll parts part split.all shows);
+  none = subst (All KeepsHeadAlone) (sym pushed) (All-push KeepsHeadAlone parts part split.none alone);
 }
 
 -- the next file
@@ -163,4 +166,5 @@ files-all files left parts split none = record {
       ∙ split.split;
   each = split.each;
   all = split.all;
+  none = split.none;
 }

@@ -1,4 +1,5 @@
 pub mod PieceBlocks
+pub mod PiecesRead
 pub mod PartFiles
 pub mod Stored
 pub mod ShownLayer

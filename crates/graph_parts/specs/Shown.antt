@@ -9,7 +9,7 @@ use Rattle.graph_layer.specs.declared.opening.error.OpenError.{OpenError}
 use Rattle.gix_commitgraph.specs.Graph.{IsGraph}
 use Rattle.graph_find.specs.declared.chain.ChainLayer.{ChainLayer}
 use Rattle.graph_parts.specs.PartFiles.{commits_in, edge_count}
-use Rattle.graph_parts.specs.ShownLayer.{IsLayerParts, ShowsAll, ShowsLayer}
+use Rattle.graph_parts.specs.ShownLayer.{IsLayerParts, KeepsHeadAlone, ShowsAll, ShowsLayer}
 use Rattle.graph_parts.specs.declared.layer.LayerParts.{LayerParts}
 use Rattle.graph_parts.specs.declared.parts.GraphParts.{GraphParts}
 
@@ -63,3 +63,4 @@ pub record AreUnread (files : List ChainLayer) (parts : List LayerParts) : Type 
   pub same : map (λ (part : LayerParts). part.file) parts ≡ files
   pub each : All IsLayerParts parts
   pub all : All ShowsAll parts
+  pub none : All KeepsHeadAlone parts

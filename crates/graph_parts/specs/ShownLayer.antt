@@ -5,7 +5,7 @@ use Rattle.graph_folder.specs.Tree.{Tree}
 use Rattle.graph_format.specs.Layer.{Layer}
 use Rattle.graph_find.specs.LayerFinding.{IsLayerOfHead}
 use Rattle.graph_find.specs.ReadHead.{IsHead}
-use Rattle.graph_parts.specs.PieceBlocks.{AreOf, AreSized}
+use Rattle.graph_parts.specs.PieceBlocks.{AreOf, AreSized, KeepsNothing}
 use Rattle.graph_parts.specs.PartFiles.{AreIds, AreRecords, AreEdges}
 use Rattle.graph_parts.specs.declared.layer.LayerParts.{LayerParts}
 
@@ -31,6 +31,10 @@ pub record ShowsLayer (known : Option Tree) (part : LayerParts) (layer : Layer) 
 abbrev pub ShowsAll : LayerParts → Type 0
 ShowsAll part = (known : Option Tree) (layer : Layer)
     → IsLayerOfHead known (string_bytes part.file.path) part.file.head layer → ShowsLayer known part layer
+
+-- nothing but the head is kept
+abbrev pub KeepsHeadAlone : LayerParts → Type 0
+KeepsHeadAlone part = KeepsNothing part.ids × KeepsNothing part.records × KeepsNothing part.edges
 
 -- More of the same file may be kept, where the tree is known those of its file.
 pub record SeesMoreOfLayer (known : Option Tree) (old new : LayerParts) : Type 0 where

@@ -12,8 +12,10 @@ ghost use Rattle.graph_find.specs.ReadHead.{IsHead};
 ghost use Rattle.graph_parts.specs.PieceBlocks.{IsPieceKept};
 ghost use Rattle.graph_parts.specs.PartFiles.{AreIds, AreRecords, AreEdges, commits_in, edge_count};
 ghost use Rattle.graph_parts.specs.PartFiles.{edge_words};
+ghost use Rattle.graph_parts.specs.PiecesRead.{LayerPartsWereRead};
 ghost use Rattle.graph_parts.specs.Stored.{StoresCommit};
-ghost use Rattle.graph_parts.specs.ShownLayer.{IsLayerParts, SeesMoreOfLayer, ShowsAll, ShowsLayer};
+ghost use Rattle.graph_parts.specs.ShownLayer.{IsLayerParts, KeepsHeadAlone, SeesMoreOfLayer};
+ghost use Rattle.graph_parts.specs.ShownLayer.{ShowsAll, ShowsLayer};
 
 use crate::pieces::{Kept, Pieces, Series};
 use gix_hash_core::{Kind, ObjectId, oid};
@@ -104,6 +106,7 @@ impl LayerParts {
         ensures parts { IsLayerParts result }
         ensures file { result.file ≡ file }
         ensures none { ShowsAll result }
+        ensures head { KeepsHeadAlone result }
     {
         let (ids, records, edges) = (
             ids_of(&file.head),
@@ -131,6 +134,8 @@ impl LayerParts {
         requires pos { pos < commits_in self.old.file }
         ensures parts { IsLayerParts self.new }
         ensures sees { SeesMoreOfLayer (T.tree folder.old) self.old self.new }
+        ensures given { LayerPartsWereRead T.gives_part self.old
+            → LayerPartsWereRead T.gives_part self.new }
         ensures kept { IfOk result (λ answer. IfSome answer (IsPieceKept self.new.ids pos)) }
         ensures tree { T.tree folder.new ≡ T.tree folder.old }
         ensures failures { T.failure_count folder.new
@@ -165,6 +170,8 @@ impl LayerParts {
         requires pos { pos < commits_in self.old.file }
         ensures parts { IsLayerParts self.new }
         ensures sees { SeesMoreOfLayer (T.tree folder.old) self.old self.new }
+        ensures given { LayerPartsWereRead T.gives_part self.old
+            → LayerPartsWereRead T.gives_part self.new }
         ensures id { IfOk result (λ answer. IfSome answer (λ id. (layer : Layer)
             → ShowsLayer (T.tree folder.old) self.new layer
             → slice_get layer.ids pos ≡ Some id)) }
@@ -193,6 +200,8 @@ impl LayerParts {
         requires pos { pos < commits_in self.old.file }
         ensures parts { IsLayerParts self.new }
         ensures sees { SeesMoreOfLayer (T.tree folder.old) self.old self.new }
+        ensures given { LayerPartsWereRead T.gives_part self.old
+            → LayerPartsWereRead T.gives_part self.new }
         ensures stores { IfOk result (λ answer. IfSome answer (λ commit. (layer : Layer)
             → ShowsLayer (T.tree folder.old) self.new layer
             → StoresCommit (record_at layer pos) commit)) }
@@ -229,6 +238,8 @@ impl LayerParts {
         requires index { index < edge_count self.old.file }
         ensures parts { IsLayerParts self.new }
         ensures sees { SeesMoreOfLayer (T.tree folder.old) self.old self.new }
+        ensures given { LayerPartsWereRead T.gives_part self.old
+            → LayerPartsWereRead T.gives_part self.new }
         ensures says { IfOk result (λ answer. IfSome answer (λ edge. (layer : Layer)
             → ShowsLayer (T.tree folder.old) self.new layer
             → edge ≡ extra_edge_of (slice_index (edge_words layer) index))) }

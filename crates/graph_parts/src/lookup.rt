@@ -6,6 +6,7 @@ ghost use Rattle.graph_folder.specs.Failures.{failures_after};
 ghost use Rattle.graph_format.specs.Layer.{Layer};
 ghost use Rattle.graph_parts.specs.Lookups.{LiesWithin, LooksUpInLayer};
 ghost use Rattle.graph_parts.specs.PartFiles.{commits_in};
+ghost use Rattle.graph_parts.specs.PiecesRead.{LayerPartsWereRead};
 ghost use Rattle.graph_parts.specs.ShownLayer.{IsLayerParts, SeesMoreOfLayer, ShowsLayer};
 
 use crate::guesses::Guesses;
@@ -39,6 +40,8 @@ impl LayerParts {
         requires { IsLayerParts self.old }
         ensures parts { IsLayerParts self.new }
         ensures sees { SeesMoreOfLayer (T.tree folder.old) self.old self.new }
+        ensures given { LayerPartsWereRead T.gives_part self.old
+            → LayerPartsWereRead T.gives_part self.new }
         ensures within { IfOk result (LiesWithin (commits_in self.old.file)) }
         ensures answers { IfOk result (λ lookup. (layer : Layer)
             → ShowsLayer (T.tree folder.old) self.new layer

@@ -7,9 +7,11 @@ ghost use Rattle.graph_folder.specs.Failures.{failures_after};
 ghost use Rattle.gix_commitgraph.specs.OpenAlways.{IsFromChain, IsFromFile, IsFromInfo};
 ghost use Rattle.gix_commitgraph.specs.OpenAlways.{IsFromPath};
 ghost use Rattle.gix_commitgraph.specs.Opening.{chain_opened, file_opened, info_opened};
+ghost use Rattle.graph_find.specs.PartsRead.{HeadsWereRead};
 ghost use Rattle.graph_find.specs.ReadHead.{IsHead};
 ghost use Rattle.graph_parts.specs.PathOpening.{opened_at, parts_answer};
-ghost use Rattle.graph_parts.specs.Shown.{ArePartsOf, AreUnread};
+ghost use Rattle.graph_parts.specs.PiecesRead.{PartsWereRead, PiecesWereRead};
+ghost use Rattle.graph_parts.specs.Shown.{ArePartsOf, AreUnread, files_of};
 
 use crate::layer::LayerParts;
 use crate::parts::GraphParts;
@@ -33,6 +35,7 @@ pub fn open_file_parts<T: Folder>(
 ) -> Result<Option<GraphParts>, ReadError>
     ensures opened { IfOk result (λ answer. IfSome answer (ArePartsOf (T.tree folder.old)
         (λ tree. file_opened tree path.now) (IsFromFile path.now))) }
+    ensures given { IfOk result (λ answer. IfSome answer (PartsWereRead T.gives_part)) }
     ensures not_opened { ForSome (T.tree folder.old) (λ tree.
         IsErrOf result ReadError.NotOpened → file_at tree path.now ≡ None) }
     ensures tree { T.tree folder.new ≡ T.tree folder.old }
@@ -64,6 +67,9 @@ pub fn open_chain_parts<T: Folder>(
 ) -> Result<Option<GraphParts>, ReadError>
     ensures opened { IfOk result (λ answer. IfSome answer (ArePartsOf (T.tree folder.old)
         (λ tree. chain_opened tree path.now) (IsFromChain path.now))) }
+    ensures named { IfOk result (λ answer. IfSome answer (λ parts.
+        HeadsWereRead T.gives T.gives_part path.now (files_of parts))) }
+    ensures given { IfOk result (λ answer. IfSome answer (PartsWereRead T.gives_part)) }
     ensures tree { T.tree folder.new ≡ T.tree folder.old }
     ensures failures { T.failure_count folder.new
         ≡ failures_after result (T.failure_count folder.old) }

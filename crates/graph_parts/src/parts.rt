@@ -9,6 +9,7 @@ ghost use Rattle.graph_format.specs.Layer.{Layer};
 ghost use Rattle.gix_commitgraph.specs.Graph.{graph_ids, total};
 ghost use Rattle.gix_commitgraph.specs.GraphLaw.{LiesIn};
 ghost use Rattle.graph_parts.specs.Lookups.{LiesWithin, LooksUp};
+ghost use Rattle.graph_parts.specs.PiecesRead.{PartsWereRead};
 ghost use Rattle.graph_parts.specs.Shown.{AreGraphParts, SeesMore, Shows, commits_of_parts};
 ghost use Rattle.graph_parts.specs.Shown.{edge_count_at, files_of};
 ghost use Rattle.graph_parts.specs.Spots.{IsSpotOf, LiesInFile};
@@ -30,7 +31,8 @@ use std::alloc::Global;
 /// blocks of 128, and then by blocks, as words are. A call that reads answers `None` where a file
 /// no longer has the length that it had, or is to be read whole. Its errors are those of a read:
 /// `NotOpened`, `Device` and `OutOfMemory`, and the folder's count of failures rises with `Device`.
-/// More can be asked after each of them.
+/// More can be asked after each of them. Whatever others write meanwhile: if what is kept was read,
+/// all that is kept after a call was.
 #[derive(Drop)]
 pub struct GraphParts {
     pub(crate) layers: Vec<LayerParts>,
@@ -101,6 +103,7 @@ impl GraphParts {
         requires pos { pos.0 < commits_of_parts self.old }
         ensures parts { AreGraphParts self.new }
         ensures sees { SeesMore (T.tree folder.old) self.old self.new }
+        ensures given { PartsWereRead T.gives_part self.old → PartsWereRead T.gives_part self.new }
         ensures stores { IfOk result (λ answer. IfSome answer (λ commit. (layers : List Layer)
             → Shows (T.tree folder.old) self.new layers → StoresAt layers pos.0 commit)) }
         ensures tree { T.tree folder.new ≡ T.tree folder.old }
@@ -126,6 +129,7 @@ impl GraphParts {
         requires pos { pos.0 < commits_of_parts self.old }
         ensures parts { AreGraphParts self.new }
         ensures sees { SeesMore (T.tree folder.old) self.old self.new }
+        ensures given { PartsWereRead T.gives_part self.old → PartsWereRead T.gives_part self.new }
         ensures id { IfOk result (λ answer. IfSome answer (λ id. (layers : List Layer)
             → Shows (T.tree folder.old) self.new layers
             → slice_get (graph_ids layers) pos.0 ≡ Some id)) }
@@ -165,6 +169,7 @@ impl GraphParts {
         requires index { index < edge_count_at self.old layer }
         ensures parts { AreGraphParts self.new }
         ensures sees { SeesMore (T.tree folder.old) self.old self.new }
+        ensures given { PartsWereRead T.gives_part self.old → PartsWereRead T.gives_part self.new }
         ensures says { IfOk result (λ answer. IfSome answer (λ edge. (layers : List Layer)
             → Shows (T.tree folder.old) self.new layers → StoresEdge layers layer index edge)) }
         ensures tree { T.tree folder.new ≡ T.tree folder.old }
@@ -190,6 +195,7 @@ impl GraphParts {
         requires parts { AreGraphParts self.old }
         ensures parts { AreGraphParts self.new }
         ensures sees { SeesMore (T.tree folder.old) self.old self.new }
+        ensures given { PartsWereRead T.gives_part self.old → PartsWereRead T.gives_part self.new }
         ensures within { IfOk result (LiesWithin (commits_of_parts self.old)) }
         ensures answers { IfOk result (λ lookup. (layers : List Layer)
             → Shows (T.tree folder.old) self.new layers

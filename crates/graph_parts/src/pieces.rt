@@ -7,10 +7,12 @@ ghost use Rattle.std.specs.Global.{Global};
 ghost use Rattle.std.specs.Option.{ForSome};
 ghost use Rattle.graph_folder.specs.Tree.{file_at};
 ghost use Rattle.graph_folder.specs.Failures.{failures_after};
+ghost use Rattle.graph_find.specs.PartsRead.{BytesWereRead};
 ghost use Rattle.graph_parts.specs.PieceBlocks.{AddsStretch, AreOf, AreSized, CanKeep, FitsIn};
 ghost use Rattle.graph_parts.specs.PieceBlocks.{HasBlock, IsPieceKept, IsPieceOf, KeepsNothing};
 ghost use Rattle.graph_parts.specs.PieceBlocks.{KeepsSame, LacksBlock, ReadsMore, stretch_count};
 ghost use Rattle.graph_parts.specs.PieceBlocks.{stretch_first, stretch_len, stretch_start};
+ghost use Rattle.graph_parts.specs.PiecesRead.{PiecesWereRead};
 ghost use Rattle.graph_parts.specs.declared.pieces.Stretch.TheVariants.{Alone, Block};
 
 use commit_search::Places;
@@ -93,6 +95,8 @@ impl Pieces {
         requires fits { FitsIn self.old.series file_len }
         requires sized { AreSized self.old }
         ensures reads { ReadsMore (T.tree folder.old) path.now self.old self.new }
+        ensures given { PiecesWereRead T.gives_part path.now file_len self.old
+            → PiecesWereRead T.gives_part path.now file_len self.new }
         ensures kept { IfOk result (λ answer. IfSome answer (IsPieceKept self.new index)) }
         ensures tree { T.tree folder.new ≡ T.tree folder.old }
         ensures failures { T.failure_count folder.new
@@ -296,6 +300,8 @@ impl Series {
             IfOk result (λ answer. IfSome answer (λ bytes. IsSomeAnd (file_at tree path.now)
             (λ file. slice_range file (stretch_start self stretch)
             (stretch_start self stretch + stretch_len self stretch) ≡ bytes.items)))) }
+        ensures given { IfOk result (λ answer. IfSome answer (λ bytes. BytesWereRead
+            T.gives_part path.now file_len (stretch_start self stretch) bytes.items)) }
         ensures tree { T.tree folder.new ≡ T.tree folder.old }
         ensures failures { T.failure_count folder.new
             ≡ failures_after result (T.failure_count folder.old) }

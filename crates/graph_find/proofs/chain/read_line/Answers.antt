@@ -15,3 +15,11 @@ returns-in-Some-clause-head g c = record {
     begins = λ tree is. rw (← c.as_str.ensures.value) (rw c.in-Some.is at (c.in_ok-head.ensures.begins tree is));
   };
 }
+
+pub returns-in-Some-clause-given : goal.returns-in-Some-clause-given
+returns-in-Some-clause-given g c = record {
+  path =
+      let named : string_bytes c.in_ok-path.path ≡ layer_path c.args.path.now c.in-Ok.name.now = search rules in
+      named ∙ ap (λ (line : List ℕ). layer_path c.args.path.now line) c.in-Ok.ensures.cases.0;
+  head = rw (← c.as_str.ensures.value) (rw c.in-Some.is at c.in_ok-head.ensures.given);
+}

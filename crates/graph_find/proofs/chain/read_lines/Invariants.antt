@@ -2,6 +2,7 @@
 use Rattle.std.proofs.Common.{◌≡◌}
 use Rattle.std.specs.Str.Lines.{lines}
 use Rattle.graph_find.specs.ChainHeads.{IsHeadOfLine}
+use Rattle.graph_find.specs.PartsRead.{LineWasRead}
 use Rattle.graph_find.proofs.ChainReadLemmas.{ReadTo}
 use Rattle.graph_find.proofs.chain.read_lines.Given as goal
 
@@ -15,4 +16,5 @@ invariant-loop-line g l =
       tree : tree_of l.folder ≡ tree_of l.fn.folder;
       failures : failures l.folder ≡ failures l.fn.folder;
       read : ReadTo (IsHeadOfLine (tree_of l.fn.folder) l.path) (lines l.text) l.line-iterator l.layers.items;
+      given : ReadTo (LineWasRead g.T.Folder.gives_part l.path) (lines l.text) l.line-iterator l.layers.items;
     }

@@ -1,5 +1,9 @@
 -- The head makes the one layer.
-use Rattle.std.proofs.Common.{◌≡◌, [], ◌∷◌, string_bytes, rules}
+use Rattle.std.proofs.Common.{◌≡◌, [], ◌∷◌, All, List, ℕ, string_bytes, rules, subst, sym}
+use Rattle.std.proofs.lemmas.List.Elements.{All-cons, All-nil}
+use Rattle.graph_find.specs.PartsRead.{HeadWasRead}
+use Rattle.graph_parts.specs.PiecesRead.{LayerPartsWereRead}
+use Rattle.graph_parts.proofs.GivenLemmas.{head-read}
 use Rattle.graph_parts.proofs.OpeningLemmas.{file-parts}
 use Rattle.graph_parts.proofs.opening.open_file_parts.Goals as goal
 
@@ -16,3 +20,16 @@ returns-clause-opened g c =
     (rw c.new-layer.ensures.file named)
     c.new-layer.ensures.parts c.new-layer.ensures.none
     (rw c.new-layer.ensures.file (λ tree there. rw c.in-Some.is at (c.in_ok-head.ensures.begins tree there)))
+
+pub returns-clause-given : goal.returns-clause-given
+returns-clause-given g c =
+    let gives = g.T.Folder.gives_part in
+    let part = c.new-layer.result in
+    let is : c.push.new.self.items ≡ part ∷ [] = search rules in
+    let named : string_bytes c.in_ok-path.path ≡ c.args.path.now = search rules in
+    let at : HeadWasRead gives (string_bytes c.in_ok-path.path) c.in-Some.head =
+    subst (λ (p : List ℕ). HeadWasRead gives p c.in-Some.head) (sym named) (rw c.in-Some.is at c.in_ok-head.ensures.given) in
+    let head : HeadWasRead gives (string_bytes part.file.path) part.file.head = rw c.new-layer.ensures.file at in
+    subst (All (LayerPartsWereRead gives)) (sym is)
+    (All-cons (LayerPartsWereRead gives) part [] (head-read gives part head c.new-layer.ensures.head)
+    (All-nil (LayerPartsWereRead gives)))

@@ -28,7 +28,7 @@ loop-file-preserved c =
       is_finite = tt;
       split = files-push c.args.files.items c.loop-file.file-iterator.rest.items rest c.loop-file.layers.items
           c.push.new.self.items c.new.result c.in-Some.file c.loop-file.invariant.split cut pushed c.new.ensures.file
-          c.new.ensures.parts c.new.ensures.none;
+          c.new.ensures.parts c.new.ensures.none c.new.ensures.head;
     }
 
 pub returns-clause-parts : goal.returns-clause-parts

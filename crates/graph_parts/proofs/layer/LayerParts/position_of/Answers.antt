@@ -29,6 +29,7 @@ loop-low-init g c =
       failures = refl;
       parts = c.requires;
       sees = sees-same known c.args.self.now;
+      given = λ were. were;
       within = omega (arith, c.if-layout-span.false);
       stands = λ layer shows.
           let byte : slice_index wanted 0 < 256 = rw c.as_bytes-wanted.ensures.bytes (omega (arith, c.first_byte.ensures)) in
@@ -50,6 +51,7 @@ loop-low-preserved-in-Less g c =
       failures = search rules;
       parts = c.read_id.ensures.parts;
       sees = sees-after known c.args.self.now c.loop-low.self c.read_id.new.self c.loop-low.invariant.sees more;
+      given = λ were. c.read_id.ensures.given (c.loop-low.invariant.given were);
       within = omega (arith, c.loop-low.invariant.within, c.loop-low-test.true);
       stands = λ layer shows.
           stands_within-lower layer _ _ _ _ _ (c.loop-low.invariant.stands layer (more.kept layer shows))
@@ -65,6 +67,7 @@ loop-low-preserved g c =
       failures = search rules;
       parts = c.read_id.ensures.parts;
       sees = sees-after known c.args.self.now c.loop-low.self c.read_id.new.self c.loop-low.invariant.sees more;
+      given = λ were. c.read_id.ensures.given (c.loop-low.invariant.given were);
       within = c.loop-low.invariant.within;
       stands = λ layer shows.
           stands_within-upper layer _ _ _ _ _ (c.loop-low.invariant.stands layer (more.kept layer shows))
@@ -99,3 +102,12 @@ returns-clause-answers g c =
 
 pub returns-in-Equal-clause-within : goal.returns-in-Equal-clause-within
 returns-in-Equal-clause-within g c = omega (arith, c.loop-low.invariant.within, c.loop-low-test.true)
+
+pub returns-in_err-kept-clause-given : goal.returns-in_err-kept-clause-given
+returns-in_err-kept-clause-given g c = λ were. c.read_id.ensures.given (c.loop-low.invariant.given were)
+
+pub returns-in_default-clause-given : goal.returns-in_default-clause-given
+returns-in_default-clause-given g c = λ were. c.read_id.ensures.given (c.loop-low.invariant.given were)
+
+pub returns-in-Equal-clause-given : goal.returns-in-Equal-clause-given
+returns-in-Equal-clause-given g c = λ were. c.read_id.ensures.given (c.loop-low.invariant.given were)

@@ -3,6 +3,7 @@ use Rattle.std.proofs.Common.{◌≡◌, ◌-◌, ◌≤◌}
 use Rattle.graph_format.specs.Layer.{Layer}
 use Rattle.graph_layer.proofs.LookupLemmas.{StandsWithin}
 use Rattle.graph_parts.specs.PartFiles.{commits_in}
+use Rattle.graph_parts.specs.PiecesRead.{LayerPartsWereRead}
 use Rattle.graph_parts.specs.ShownLayer.{IsLayerParts, SeesMoreOfLayer, ShowsLayer}
 use Rattle.graph_parts.proofs.layer.LayerParts.position_of.Given as goal
 
@@ -15,6 +16,7 @@ invariant-loop-low g l =
       failures : failures l.folder ≡ failures l.fn.folder;
       parts : IsLayerParts l.self;
       sees : SeesMoreOfLayer (tree_of l.fn.folder) l.fn.self l.self;
+      given : LayerPartsWereRead g.T.Folder.gives_part l.fn.self → LayerPartsWereRead g.T.Folder.gives_part l.self;
       within : l.high ≤ commits_in l.fn.self.file;
       stands : (layer : Layer) → ShowsLayer (tree_of l.fn.folder) l.self layer → StandsWithin layer l.wanted l.low l.high;
     }

@@ -1,5 +1,6 @@
 -- More is read of the layer in which the position lies.
 use Rattle.std.proofs.Common.{arith}
+use Rattle.graph_parts.proofs.GivenLemmas.{given-set}
 use Rattle.graph_parts.proofs.GraphPartLemmas.{new-stores, new-parts, new-sees, part-of, reads-spot, spot-left, spot-part}
 use Rattle.graph_parts.proofs.ZipLemmas.{ok-some}
 use Rattle.graph_parts.proofs.parts.GraphParts.commit_at.Goals as goal
@@ -48,3 +49,10 @@ returns-clause-stores g c =
     c.index_mut.ensures.value c.commit_at.new.self c.commit_at.ensures.sees c.commit_at.ensures.parts)
     c.args.pos.0 spot.pos c.spot_of-spot.ensures answer said)
     c.commit_at.ensures.stores
+
+pub returns-clause-given : goal.returns-clause-given
+returns-clause-given g c =
+    let spot = c.spot_of-spot.result in
+    given-set g.T.Folder.gives_part c.args.self.now spot.layer c.index_mut.result.now c.commit_at.new.self
+    (part-of c.args.self.now c.args.pos.0 spot.layer spot.pos c.spot_of-spot.ensures) c.index_mut.ensures.value
+    c.commit_at.ensures.given

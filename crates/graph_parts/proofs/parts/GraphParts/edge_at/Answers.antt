@@ -5,6 +5,7 @@ use Rattle.std.proofs.lemmas.Option.{slice_get_read}
 use Rattle.graph_find.specs.declared.chain.ChainLayer.{ChainLayer}
 use Rattle.graph_parts.specs.PartFiles.{edge_count}
 use Rattle.graph_parts.specs.ShownLayer.{IsLayerParts}
+use Rattle.graph_parts.proofs.GivenLemmas.{given-set}
 use Rattle.graph_parts.proofs.GraphPartLemmas.{edge-part, has-edge, new-edge, new-parts, new-sees, same-file}
 use Rattle.graph_parts.proofs.ZipLemmas.{all-get, ok-some}
 use Rattle.graph_parts.proofs.parts.GraphParts.edge_at.Goals as goal
@@ -86,3 +87,10 @@ returns-clause-says g c =
     })
     c.args.index answer said)
     c.edge_at.ensures.says
+
+pub returns-clause-given : goal.returns-clause-given
+returns-clause-given g c =
+    let has = has-edge c.args.self.now c.args.layer c.args.index c.requires.index in
+    let within = edge-part c.args.self.now c.args.layer has.0 has.1 in
+    given-set g.T.Folder.gives_part c.args.self.now c.args.layer c.index_mut.result.now c.edge_at.new.self within
+    c.index_mut.ensures.value c.edge_at.ensures.given

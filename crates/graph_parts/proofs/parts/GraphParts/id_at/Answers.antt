@@ -1,5 +1,6 @@
 -- More is read of the layer in which the position lies.
 use Rattle.std.proofs.Common.{arith}
+use Rattle.graph_parts.proofs.GivenLemmas.{given-set}
 use Rattle.graph_parts.proofs.GraphPartLemmas.{new-id, new-parts, new-sees, part-of, reads-spot, spot-left, spot-part}
 use Rattle.graph_parts.proofs.ZipLemmas.{ok-some}
 use Rattle.graph_parts.proofs.parts.GraphParts.id_at.Goals as goal
@@ -48,3 +49,10 @@ returns-clause-id g c =
     c.index_mut.ensures.value c.id_at.new.self c.id_at.ensures.sees c.id_at.ensures.parts)
     c.args.pos.0 spot.pos c.spot_of-spot.ensures answer said)
     c.id_at.ensures.id
+
+pub returns-clause-given : goal.returns-clause-given
+returns-clause-given g c =
+    let spot = c.spot_of-spot.result in
+    given-set g.T.Folder.gives_part c.args.self.now spot.layer c.index_mut.result.now c.id_at.new.self
+    (part-of c.args.self.now c.args.pos.0 spot.layer spot.pos c.spot_of-spot.ensures) c.index_mut.ensures.value
+    c.id_at.ensures.given

@@ -7,9 +7,11 @@ use Rattle.std.proofs.lemmas.Option.{slice_get_read}
 use Rattle.gix_hash_core.specs.Oid.{oid_bytes}
 use Rattle.graph_find.specs.declared.chain.ChainLayer.{ChainLayer}
 use Rattle.graph_parts.specs.PartFiles.{commits_in, commits_in_all}
+use Rattle.graph_parts.specs.PiecesRead.{PartsWereRead}
 use Rattle.graph_parts.specs.Shown.{AreGraphParts, SeesMore, commits_of_parts, files_of}
 use Rattle.graph_parts.specs.declared.layer.LayerParts.{LayerParts}
 use Rattle.graph_parts.specs.declared.parts.GraphParts.{GraphParts}
+use Rattle.graph_parts.proofs.GivenLemmas.{given-set}
 use Rattle.graph_parts.proofs.GraphPartLemmas.{ReadsAt, files-fit, files-more, found-here, missed-all, missed-here, new-parts}
 use Rattle.graph_parts.proofs.GraphPartLemmas.{new-sees}
 use Rattle.graph_parts.proofs.GraphPartLemmas.{same-commits, sees-then}
@@ -48,6 +50,21 @@ module _ (g : Over) (c : After-position_of g) where
   sees : SeesMore (g.T.Folder.tree c.args.folder.now) c.args.self.now new
   sees =
       sees-then (g.T.Folder.tree c.args.folder.now) c.args.self.now c.loop-layer.self new c.loop-layer.invariant.sees more
+
+  given : PartsWereRead g.T.Folder.gives_part c.args.self.now → PartsWereRead g.T.Folder.gives_part new
+  given were =
+      given-set g.T.Folder.gives_part c.loop-layer.self c.loop-layer.layer c.index_mut.result.now c.position_of.new.self
+      (omega (arith, c.loop-layer.invariant.long, c.loop-layer-test.true)) c.index_mut.ensures.value c.position_of.ensures.given
+      (c.loop-layer.invariant.given were)
+
+pub returns-in_err-pos-clause-given : goal.returns-in_err-pos-clause-given
+returns-in_err-pos-clause-given g c = given g (goal.at.returns-in_err-pos-clause-given g c).After-position_of
+
+pub returns-in-Found-clause-given : goal.returns-in-Found-clause-given
+returns-in-Found-clause-given g c = given g (goal.at.returns-in-Found-clause-given g c).After-position_of
+
+pub returns-in-NotByParts-clause-given : goal.returns-in-NotByParts-clause-given
+returns-in-NotByParts-clause-given g c = given g (goal.at.returns-in-NotByParts-clause-given g c).After-position_of
 
 pub returns-in_err-pos-clause-parts : goal.returns-in_err-pos-clause-parts
 returns-in_err-pos-clause-parts g c = right g (goal.at.returns-in_err-pos-clause-parts g c).After-position_of
@@ -112,6 +129,7 @@ loop-layer-preserved g c =
       failures = search rules;
       right = right g after;
       sees = sees g after;
+      given = given g after;
       long = length-set old.layers.items l c.position_of.new.self ∙ c.loop-layer.invariant.long;
       counted =
           let one : commits_in c.index.result.now.file ≡ commits_in c.position_of.new.self.file =

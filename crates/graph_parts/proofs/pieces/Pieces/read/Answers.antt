@@ -1,6 +1,7 @@
 -- One stretch more is kept at most, and it is one of the piece.
 use Rattle.std.proofs.Common.{◌≡◌, false, is_some, rules}
 use Rattle.graph_parts.proofs.BlockLemmas.{can-keep, if-missing, reads-same, reads-stretch, same-start, stretch-within}
+use Rattle.graph_parts.proofs.GivenLemmas.{given-added, given-same}
 use Rattle.graph_parts.proofs.pieces.Pieces.read.Goals as goal
 
 pub returns-then-is_some-clause-reads : goal.returns-then-is_some-clause-reads
@@ -45,3 +46,14 @@ pub returns-in-None-clause-reads : goal.returns-in-None-clause-reads
 returns-in-None-clause-reads g c =
     let pieces = c.args.self.now in
     reads-same (g.T.Folder.tree c.args.folder.now) c.args.path.now pieces pieces (same-start pieces) c.requires.sized
+
+pub returns-in_err-kept-in-Some-clause-given : goal.returns-in_err-kept-in-Some-clause-given
+returns-in_err-kept-in-Some-clause-given g c =
+    given-same g.T.Folder.gives_part c.args.path.now c.args.file_len c.args.self.now c.keep.new.self
+    c.in_err-kept-in-Some.ensures.same
+
+pub returns-in_ok-kept-in-Some-clause-given : goal.returns-in_ok-kept-in-Some-clause-given
+returns-in_ok-kept-in-Some-clause-given g c =
+    given-added g.T.Folder.gives_part c.args.path.now c.args.file_len c.args.self.now c.keep.new.self
+    c.stretch_of-stretch.result c.in-Some.bytes.items c.in_ok-kept-in-Some.ensures.adds
+    (rw c.in-Some.is at c.in_ok-bytes.ensures.given)
