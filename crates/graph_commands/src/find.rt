@@ -52,10 +52,10 @@ impl Opener for Finder<'_> {
 
     ghost is_ready = { λ _. ⊤ };
 
-    ghost of_file = { λ id known _ path old new _ _.
+    ghost of_file = { λ id known _ _ path old new _ _.
         FindsBy (OpensStopping known (λ tree. file_opened tree path) old new) id };
 
-    ghost of_chain = { λ id known _ path old new _ _.
+    ghost of_chain = { λ id known _ _ path old new _ _.
         FindsBy (OpensStopping known (λ tree. chain_opened tree path) old new) id };
 
     fn file<T: Folder>(

@@ -90,11 +90,11 @@ impl Opener for Taking<'_> {
 
     ghost is_ready = { λ taking. taking.graph.now.options ≡ plain_options };
 
-    ghost of_file = { λ _ known gives path old new before after.
+    ghost of_file = { λ _ known gives _ path old new before after.
         TakesBy (OpensAsRead (OpensStopping known (λ tree. file_opened tree path) old new)
         (FileWasRead gives path)) before.graph.now.layers after.graph.now.layers };
 
-    ghost of_chain = { λ _ known gives path old new before after.
+    ghost of_chain = { λ _ known gives _ path old new before after.
         TakesBy (OpensAsRead (OpensStopping known (λ tree. chain_opened tree path) old new)
         (ChainWasRead gives path)) before.graph.now.layers after.graph.now.layers };
 

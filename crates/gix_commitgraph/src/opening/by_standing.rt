@@ -12,6 +12,7 @@ use std::alloc::Global;
 pub trait Opener {
     ghost use Rattle.std.specs.Prelude.{◌≡◌, ℕ, List, Option, Result};
     ghost use Rattle.graph_folder.specs.Tree.{Tree};
+    ghost use Rattle.graph_folder.specs.declared.folder.Part.{Part};
     ghost use Rattle.graph_layer.specs.declared.opening.error.OpenError.{OpenError as error};
 
     /// What is made of them.
@@ -27,13 +28,15 @@ pub trait Opener {
     ghost is_ready: { Self → Type 0 };
 
     /// This may come of the file at a path, in a folder with this tree, where that is known, of
-    /// whose reads this may be given, while the count of failed reads goes from the first number to
-    /// the second, and the opener from the first value to the second.
-    ghost of_file: { Known → Option Tree → (List ℕ → List ℕ → Type 0) → List ℕ → ℕ → ℕ
+    /// whose reads this may be given, of whole files and of parts, while the count of failed reads
+    /// goes from the first number to the second, and the opener from the first value to the second.
+    ghost of_file: { Known → Option Tree → (List ℕ → List ℕ → Type 0)
+        → (List ℕ → ℕ → Part → Type 0) → List ℕ → ℕ → ℕ
         → Self → Self → Result Self.Opened error → Type 0 };
 
     /// The same of the chain folder at a path.
-    ghost of_chain: { Known → Option Tree → (List ℕ → List ℕ → Type 0) → List ℕ → ℕ → ℕ
+    ghost of_chain: { Known → Option Tree → (List ℕ → List ℕ → Type 0)
+        → (List ℕ → ℕ → Part → Type 0) → List ℕ → ℕ → ℕ
         → Self → Self → Result Self.Opened error → Type 0 };
 
     /// Opens the file at the path.
@@ -44,7 +47,7 @@ pub trait Opener {
         path: &str,
     ) -> Result<Self::Opened, OpenError>
         requires { is_ready self.old }
-        ensures comes { of_file (known self.old) (T.tree folder.old) T.gives path.now
+        ensures comes { of_file (known self.old) (T.tree folder.old) T.gives T.gives_part path.now
             (T.failure_count folder.old) (T.failure_count folder.new) self.old self.new result }
         ensures known { known self.new ≡ known self.old }
         ensures ready { is_ready self.new }
@@ -58,7 +61,7 @@ pub trait Opener {
         path: &str,
     ) -> Result<Self::Opened, OpenError>
         requires { is_ready self.old }
-        ensures comes { of_chain (known self.old) (T.tree folder.old) T.gives path.now
+        ensures comes { of_chain (known self.old) (T.tree folder.old) T.gives T.gives_part path.now
             (T.failure_count folder.old) (T.failure_count folder.new) self.old self.new result }
         ensures known { known self.new ≡ known self.old }
         ensures ready { is_ready self.new }
@@ -80,8 +83,8 @@ pub fn open_by<T: Folder, O: Opener>(
 ) -> Result<O::Opened, OpenError>
     requires { O.is_ready opener.old }
     ensures comes { PathComes (T.tree folder.old)
-        (O.of_file (O.known opener.old) (T.tree folder.old) T.gives)
-        (O.of_chain (O.known opener.old) (T.tree folder.old) T.gives) path.now
+        (O.of_file (O.known opener.old) (T.tree folder.old) T.gives T.gives_part)
+        (O.of_chain (O.known opener.old) (T.tree folder.old) T.gives T.gives_part) path.now
         (T.failure_count folder.old) (T.failure_count folder.new) opener.old opener.new result }
     ensures known { O.known opener.new ≡ O.known opener.old }
     ensures ready { O.is_ready opener.new }
@@ -110,8 +113,8 @@ pub fn open_info_by<T: Folder, O: Opener>(
 ) -> Result<O::Opened, OpenError>
     requires { O.is_ready opener.old }
     ensures comes { InfoComes
-        (O.of_file (O.known opener.old) (T.tree folder.old) T.gives)
-        (O.of_chain (O.known opener.old) (T.tree folder.old) T.gives) path.now
+        (O.of_file (O.known opener.old) (T.tree folder.old) T.gives T.gives_part)
+        (O.of_chain (O.known opener.old) (T.tree folder.old) T.gives T.gives_part) path.now
         (T.failure_count folder.old) (T.failure_count folder.new) opener.old opener.new result }
     ensures known { O.known opener.new ≡ O.known opener.old }
     ensures ready { O.is_ready opener.new }

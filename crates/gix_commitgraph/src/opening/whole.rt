@@ -22,9 +22,9 @@ impl Opener for WholeOpener {
 
     ghost is_ready = { λ _. ⊤ };
 
-    ghost of_file = { λ _ tree gives path old new _ _. WholeFile tree gives path old new };
+    ghost of_file = { λ _ tree gives _ path old new _ _. WholeFile tree gives path old new };
 
-    ghost of_chain = { λ _ tree gives path old new _ _. WholeChain tree gives path old new };
+    ghost of_chain = { λ _ tree gives _ path old new _ _. WholeChain tree gives path old new };
 
     fn file<T: Folder>(
         &mut self,
