@@ -8,3 +8,4 @@ pub mod LookupPartLemmas
 pub mod TreeLemmas
 pub mod SpotLemmas
 pub mod PathOpeningLemmas
+pub mod OpenedLemmas

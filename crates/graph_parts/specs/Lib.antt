@@ -8,3 +8,4 @@ pub mod Spots
 pub mod Lookups
 pub mod OfTree
 pub mod PathOpening
+pub mod OpenedParts

@@ -7,11 +7,11 @@ ghost use Rattle.graph_folder.specs.Failures.{failures_after};
 ghost use Rattle.gix_commitgraph.specs.OpenAlways.{IsFromChain, IsFromFile, IsFromInfo};
 ghost use Rattle.gix_commitgraph.specs.OpenAlways.{IsFromPath};
 ghost use Rattle.gix_commitgraph.specs.Opening.{chain_opened, file_opened, info_opened};
-ghost use Rattle.graph_find.specs.PartsRead.{HeadsWereRead};
 ghost use Rattle.graph_find.specs.ReadHead.{IsHead};
+ghost use Rattle.graph_parts.specs.OpenedParts.{ChainPartsWereRead, FilePartsWereRead};
+ghost use Rattle.graph_parts.specs.OpenedParts.{InfoPartsWereRead, PathPartsWereRead};
 ghost use Rattle.graph_parts.specs.PathOpening.{opened_at, parts_answer};
-ghost use Rattle.graph_parts.specs.PiecesRead.{PartsWereRead, PiecesWereRead};
-ghost use Rattle.graph_parts.specs.Shown.{ArePartsOf, AreUnread, files_of};
+ghost use Rattle.graph_parts.specs.Shown.{ArePartsOf, AreUnread};
 
 use crate::layer::LayerParts;
 use crate::parts::GraphParts;
@@ -35,7 +35,8 @@ pub fn open_file_parts<T: Folder>(
 ) -> Result<Option<GraphParts>, ReadError>
     ensures opened { IfOk result (λ answer. IfSome answer (ArePartsOf (T.tree folder.old)
         (λ tree. file_opened tree path.now) (IsFromFile path.now))) }
-    ensures given { IfOk result (λ answer. IfSome answer (PartsWereRead T.gives_part)) }
+    ensures given { IfOk result (λ answer. IfSome answer
+        (FilePartsWereRead T.gives_part path.now)) }
     ensures not_opened { ForSome (T.tree folder.old) (λ tree.
         IsErrOf result ReadError.NotOpened → file_at tree path.now ≡ None) }
     ensures tree { T.tree folder.new ≡ T.tree folder.old }
@@ -67,9 +68,8 @@ pub fn open_chain_parts<T: Folder>(
 ) -> Result<Option<GraphParts>, ReadError>
     ensures opened { IfOk result (λ answer. IfSome answer (ArePartsOf (T.tree folder.old)
         (λ tree. chain_opened tree path.now) (IsFromChain path.now))) }
-    ensures named { IfOk result (λ answer. IfSome answer (λ parts.
-        HeadsWereRead T.gives T.gives_part path.now (files_of parts))) }
-    ensures given { IfOk result (λ answer. IfSome answer (PartsWereRead T.gives_part)) }
+    ensures given { IfOk result (λ answer. IfSome answer
+        (ChainPartsWereRead T.gives T.gives_part path.now)) }
     ensures tree { T.tree folder.new ≡ T.tree folder.old }
     ensures failures { T.failure_count folder.new
         ≡ failures_after result (T.failure_count folder.old) }
@@ -99,6 +99,8 @@ pub fn open_info_parts<T: Folder>(
 ) -> Result<Option<GraphParts>, ReadError>
     ensures opened { IfOk result (λ answer. IfSome answer (ArePartsOf (T.tree folder.old)
         (λ tree. info_opened tree path.now) (IsFromInfo path.now))) }
+    ensures given { IfOk result (λ answer. IfSome answer
+        (InfoPartsWereRead T.gives T.gives_part path.now)) }
     ensures tree { T.tree folder.new ≡ T.tree folder.old }
     ensures failures { T.failure_count folder.new
         ≡ failures_after result (T.failure_count folder.old) }
@@ -121,6 +123,8 @@ pub fn open_parts<T: Folder>(
 ) -> Result<Option<GraphParts>, ReadError>
     ensures opened { IfOk result (λ answer. IfSome answer (ArePartsOf (T.tree folder.old)
         (λ tree. opened_at tree path.now) (IsFromPath path.now))) }
+    ensures given { IfOk result (λ answer. IfSome answer
+        (PathPartsWereRead T.gives T.gives_part path.now)) }
     ensures tree { T.tree folder.new ≡ T.tree folder.old }
     ensures failures { T.failure_count folder.new
         ≡ failures_after result (T.failure_count folder.old) }
@@ -135,6 +139,8 @@ struct PartOpener;
 
 impl Opener for PartOpener {
     ghost use Rattle.std.specs.Prelude.{⊤};
+    ghost use Rattle.graph_parts.specs.OpenedParts.{ChainPartsWereRead, FilePartsWereRead};
+    ghost use Rattle.graph_parts.specs.OpenedParts.{IfPartsOpened};
     ghost use Rattle.graph_parts.specs.PathOpening.{ChainPartsCome, FilePartsCome};
 
     type Opened = Result<Option<GraphParts>, ReadError>;
@@ -145,9 +151,13 @@ impl Opener for PartOpener {
 
     ghost is_ready = { λ _. ⊤ };
 
-    ghost of_file = { λ _ known _ path old new _ _. FilePartsCome known path old new };
+    ghost of_file = { λ _ known _ gives_part path old new _ _ answer.
+        FilePartsCome known path old new answer
+        × IfPartsOpened (FilePartsWereRead gives_part path) answer };
 
-    ghost of_chain = { λ _ known _ path old new _ _. ChainPartsCome known path old new };
+    ghost of_chain = { λ _ known gives gives_part path old new _ _ answer.
+        ChainPartsCome known path old new answer
+        × IfPartsOpened (ChainPartsWereRead gives gives_part path) answer };
 
     fn file<T: Folder>(
         &mut self,

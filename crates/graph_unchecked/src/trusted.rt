@@ -5,6 +5,7 @@ ghost use Rattle.std.specs.Option.{ForSome};
 ghost use Rattle.gix_hash_core.specs.Oid.{oid_bytes};
 ghost use Rattle.gix_commitgraph.specs.Graph.{total};
 ghost use Rattle.graph_folder.specs.Tree.{Tree};
+ghost use Rattle.graph_parts.specs.OpenedParts.{PathPartsWereRead};
 ghost use Rattle.graph_unchecked.specs.Trusted.{AreParentsFound, IsCommitFound, IsTrustedAt};
 ghost use Rattle.graph_unchecked.specs.Unchecked.{IsAnswerAt, IsComparedUnchecked, IsFoundAmong};
 ghost use Rattle.graph_unchecked.specs.Unchecked.{IsFoundBetween, IsToldUnchecked};
@@ -68,6 +69,7 @@ impl TrustedGraph {
         path: &str,
     ) -> Result<TrustedGraph, Unread>
         ensures graph { IfOk result (IsTrustedAt (T.tree folder.old) path.now) }
+        ensures given { IfOk result (PathPartsWereRead T.gives T.gives_part path.now) }
 
         // A failed device is answered where a read failed, and nothing else is answered there.
         ensures failures { T.failure_count folder.new

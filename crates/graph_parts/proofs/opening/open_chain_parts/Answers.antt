@@ -21,11 +21,6 @@ returns-clause-opened g c =
     (rw c.deref.ensures.value at (c.make_graph.ensures yes))
     c.in_ok-layers.ensures.parts
 
-pub returns-clause-named : goal.returns-clause-named
-returns-clause-named g c =
-    subst (λ (files : List ChainLayer). HeadsWereRead g.T.Folder.gives g.T.Folder.gives_part c.args.path.now files)
-    (sym c.in_ok-layers.ensures.parts.same) (rw c.in-Some.is at c.in_ok-files.ensures.given)
-
 pub returns-clause-given : goal.returns-clause-given
 returns-clause-given g c =
     let gives = g.T.Folder.gives_part in
@@ -34,4 +29,4 @@ returns-clause-given g c =
     let named : HeadsWereRead g.T.Folder.gives gives c.args.path.now (map (λ (part : LayerParts). part.file) layers) =
     subst (λ (files : List ChainLayer). HeadsWereRead g.T.Folder.gives gives c.args.path.now files) (sym unread.same)
     (rw c.in-Some.is at c.in_ok-files.ensures.given) in
-    heads-alone gives c.args.path.now (lines named.text) layers named.each unread.none
+    (named, heads-alone gives c.args.path.now (lines named.text) layers named.each unread.none)

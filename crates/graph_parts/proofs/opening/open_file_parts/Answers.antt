@@ -1,5 +1,5 @@
 -- The head makes the one layer.
-use Rattle.std.proofs.Common.{◌≡◌, [], ◌∷◌, All, List, ℕ, string_bytes, rules, subst, sym}
+use Rattle.std.proofs.Common.{◌≡◌, [], ◌∷◌, All, List, ℕ, ap, string_bytes, rules, subst, sym}
 use Rattle.std.proofs.lemmas.List.Elements.{All-cons, All-nil}
 use Rattle.graph_find.specs.PartsRead.{HeadWasRead}
 use Rattle.graph_parts.specs.PiecesRead.{LayerPartsWereRead}
@@ -30,6 +30,10 @@ returns-clause-given g c =
     let at : HeadWasRead gives (string_bytes c.in_ok-path.path) c.in-Some.head =
     subst (λ (p : List ℕ). HeadWasRead gives p c.in-Some.head) (sym named) (rw c.in-Some.is at c.in_ok-head.ensures.given) in
     let head : HeadWasRead gives (string_bytes part.file.path) part.file.head = rw c.new-layer.ensures.file at in
-    subst (All (LayerPartsWereRead gives)) (sym is)
-    (All-cons (LayerPartsWereRead gives) part [] (head-read gives part head c.new-layer.ensures.head)
-    (All-nil (LayerPartsWereRead gives)))
+    let path : string_bytes part.file.path ≡ c.args.path.now = rw c.new-layer.ensures.file named in
+    (
+      rw is (ap (λ (p : List ℕ). p ∷ []) path),
+      subst (All (LayerPartsWereRead gives)) (sym is)
+          (All-cons (LayerPartsWereRead gives) part [] (head-read gives part head c.new-layer.ensures.head)
+          (All-nil (LayerPartsWereRead gives))),
+    )
