@@ -30,8 +30,7 @@ returns-clause-given g c =
     let at : HeadWasRead gives (string_bytes c.in_ok-path.path) c.in-Some.head =
     subst (λ (p : List ℕ). HeadWasRead gives p c.in-Some.head) (sym named) (rw c.in-Some.is at c.in_ok-head.ensures.given) in
     let head : HeadWasRead gives (string_bytes part.file.path) part.file.head = rw c.new-layer.ensures.file at in
-    let path : string_bytes part.file.path ≡ c.args.path.now = rw c.new-layer.ensures.file named in
-    (
+    let path : string_bytes part.file.path ≡ c.args.path.now = rw c.new-layer.ensures.file named in (
       rw is (ap (λ (p : List ℕ). p ∷ []) path),
       subst (All (LayerPartsWereRead gives)) (sym is)
           (All-cons (LayerPartsWereRead gives) part [] (head-read gives part head c.new-layer.ensures.head)
