@@ -8,9 +8,10 @@ use Rattle.std.proofs.lemmas.Option.{slice_get_read}
 use Rattle.graph_folder.specs.declared.folder.Part.{Part}
 use Rattle.graph_find.specs.PartsRead.{BytesWereRead, HeadWasRead, LineWasRead}
 use Rattle.graph_parts.specs.PieceBlocks.{AddsStretch, KeepsSame, stretch_start}
-use Rattle.graph_parts.specs.PiecesRead.{LayerPartsWereRead, PartsWereRead, PiecesWereRead}
+use Rattle.graph_parts.specs.PiecesRead.{LayerPartsWereRead, OffsetsWereRead, PartsWereRead, PiecesWereRead}
 use Rattle.graph_parts.specs.ShownLayer.{KeepsHeadAlone}
 use Rattle.graph_parts.specs.declared.layer.LayerParts.{LayerParts}
+use Rattle.graph_parts.specs.declared.offsets.LayerOffsets.{LayerOffsets}
 use Rattle.graph_parts.specs.declared.parts.GraphParts.{GraphParts}
 use Rattle.graph_parts.specs.declared.pieces.Pieces.{Pieces}
 use Rattle.graph_parts.specs.declared.pieces.Series.{Series}
@@ -44,15 +45,57 @@ module _ (gives_part : List ℕ → ℕ → Part → Type 0) (part : LayerParts)
   -- more ids, records or words
   pub given-ids : (WereOf part.ids → WereOf more) → LayerPartsWereRead gives_part part
       → LayerPartsWereRead gives_part (record part { ids = more })
-  given-ids reads were = record { head = were.head; ids = reads were.ids; records = were.records; edges = were.edges }
+  given-ids reads were = record {
+    head = were.head;
+    ids = reads were.ids;
+    records = were.records;
+    edges = were.edges;
+    offsets = were.offsets;
+  }
 
   pub given-records : (WereOf part.records → WereOf more) → LayerPartsWereRead gives_part part
       → LayerPartsWereRead gives_part (record part { records = more })
-  given-records reads were = record { head = were.head; ids = were.ids; records = reads were.records; edges = were.edges }
+  given-records reads were = record {
+    head = were.head;
+    ids = were.ids;
+    records = reads were.records;
+    edges = were.edges;
+    offsets = were.offsets;
+  }
 
   pub given-edges : (WereOf part.edges → WereOf more) → LayerPartsWereRead gives_part part
       → LayerPartsWereRead gives_part (record part { edges = more })
-  given-edges reads were = record { head = were.head; ids = were.ids; records = were.records; edges = reads were.edges }
+  given-edges reads were = record {
+    head = were.head;
+    ids = were.ids;
+    records = were.records;
+    edges = reads were.edges;
+    offsets = were.offsets;
+  }
+
+-- more words or numbers of dates
+module _ (gives_part : List ℕ → ℕ → Part → Type 0) (path : List ℕ) (file_len : ℕ) (old : LayerOffsets) (more : Pieces) where
+  pub given-words : (PiecesWereRead gives_part path file_len old.words → PiecesWereRead gives_part path file_len more)
+      → OffsetsWereRead gives_part path file_len old
+      → OffsetsWereRead gives_part path file_len (record old { words = more })
+  given-words reads were = record { words = reads were.words; numbers = were.numbers }
+
+  pub given-numbers : (PiecesWereRead gives_part path file_len old.numbers → PiecesWereRead gives_part path file_len more)
+      → OffsetsWereRead gives_part path file_len old
+      → OffsetsWereRead gives_part path file_len (record old { numbers = more })
+  given-numbers reads were = record { words = were.words; numbers = reads were.numbers }
+
+pub given-offsets : (gives_part : List ℕ → ℕ → Part → Type 0) (part : LayerParts) (more : LayerOffsets)
+    → (OffsetsWereRead gives_part (string_bytes part.file.path) part.file.head.len part.offsets
+    → OffsetsWereRead gives_part (string_bytes part.file.path) part.file.head.len more)
+    → LayerPartsWereRead gives_part part → LayerPartsWereRead gives_part (record part { offsets = more })
+given-offsets gives_part part more reads were = record {
+  head = were.head;
+  ids = were.ids;
+  records = were.records;
+  edges = were.edges;
+  offsets = reads were.offsets;
+}
 
 -- more of one layer
 pub given-set : (gives_part : List ℕ → ℕ → Part → Type 0) (old : GraphParts) (l : ℕ) (part more : LayerParts)
@@ -74,6 +117,10 @@ head-read gives_part part head alone = record {
   ids = λ s b keeps. absurd (alone.0 s b keeps);
   records = λ s b keeps. absurd (alone.1 s b keeps);
   edges = λ s b keeps. absurd (alone.2 s b keeps);
+  offsets = record {
+    words = λ s b keeps. absurd (alone.3.0 s b keeps);
+    numbers = λ s b keeps. absurd (alone.3.1 s b keeps);
+  };
 }
 
 -- and of each layer of a chain

@@ -22,6 +22,7 @@ use Rattle.graph_format.specs.Lookup.{Found}
 use Rattle.graph_format.specs.Parents.{extra_edge_of}
 use Rattle.graph_format.specs.declared.parents.ExtraEdge.{ExtraEdge}
 use Rattle.graph_find.specs.declared.chain.ChainLayer.{ChainLayer}
+use Rattle.graph_parts.specs.Offsets.{StoresDate, date_in_layer}
 use Rattle.graph_parts.specs.PartFiles.{commits_in, commits_in_all, edge_count, edge_words}
 use Rattle.graph_parts.specs.Shown.{AreGraphParts, SeesMore, Shows, commits_of_part, commits_of_parts, edge_count_at, files_of}
 use Rattle.graph_parts.specs.ShownLayer.{IsLayerParts, SeesMoreOfLayer, ShowsLayer}
@@ -187,6 +188,12 @@ module _ (known : Option Tree) (old new : GraphParts) (l : ℕ) (part more : Lay
       new-stores commit said layers shows =
           let at = new-stands layers shows in
           record { layer = at.0; pos = left; stands = at.1; stores = said at.0 at.2 }
+
+      pub new-date : (date : ℕ) → ((layer : Layer) → ShowsLayer known more layer → date ≡ date_in_layer layer left)
+          → (layers : List Layer) → Shows known new layers → StoresDate layers pos date
+      new-date date said layers shows =
+          let at = new-stands layers shows in
+          record { layer = at.0; pos = left; stands = at.1; says = said at.0 at.2 }
 
       pub new-id : (id : List ℕ) → ((layer : Layer) → ShowsLayer known more layer → slice_get layer.ids left ≡ Some id)
           → (layers : List Layer) → Shows known new layers → slice_get (graph_ids layers) pos ≡ Some id

@@ -1,27 +1,31 @@
 -- what the parts of a layer's file show
 use Rattle.std.proofs.Common.{◌≡◌, ℕ, ◌+◌, ◌*◌, ◌/◌, ◌<◌, ◌≤◌, List, [], length, slice_range, slice_index, string_bytes, Option}
-use Rattle.std.proofs.Common.{Some, None}
+use Rattle.std.proofs.Common.{Some, None, ◌≢◌, IsTrue, codes, min, unwrap_or}
 use Rattle.std.proofs.Common.{refl, sym, ap, subst, ◌∙◌, arith}
 use Rattle.std.specs.Int.{w32, from_be_bytes}
 use Rattle.std.specs.List.{slice_get}
 use Rattle.std.specs.Option.{option_map, option_map_or}
+use Rattle.std.proofs.lemmas.List.{get_or-map}
+use Rattle.std.proofs.lemmas.Option.{unwrap_or-slice_get}
 use Rattle.gix_hash_core.specs.Kind.{id_len}
 use Rattle.gix_hash_core.specs.declared.kind.Kind.{Kind}
 use Rattle.gix_chunk_core.specs.FirstBytes.{filled}
 use Rattle.graph_folder.specs.Tree.{Tree}
 use Rattle.graph_format.specs.ChunkRanges.{IsChunkRange, chunk_start, size_at}
-use Rattle.graph_format.specs.Format.{edges_id, record_of, words}
-use Rattle.graph_format.specs.Layer.{Layer, record_at}
+use Rattle.graph_format.specs.Format.{Record, chunk_of, edges_id, record_of, words}
+use Rattle.graph_format.specs.Layer.{Layer, bytes_of, no_record, record_at}
 use Rattle.graph_format.specs.Layout.{IsLayout}
+use Rattle.graph_format.specs.OptionalChunks.{HasDates, offset_of, offsets_in, overflow_in, times_in}
 use Rattle.graph_format.specs.declared.chunks.ChunkRange.{ChunkRange}
 use Rattle.graph_format.proofs.LayoutLemmas.{view-edges, view-kind}
 use Rattle.graph_format.proofs.PieceLemmas.{length-slice_range, slice_range-slice_range, words-at}
 use Rattle.graph_layer.proofs.BucketLemmas.{view-sized_id}
-use Rattle.graph_layer.proofs.FileViewLemmas.{commits-ids, view-record_at}
+use Rattle.graph_layer.proofs.FileViewLemmas.{commits-ids, commits-records, view-bytes, view-record_at}
 use Rattle.graph_layer.proofs.ListedParentLemmas.{length-words}
 use Rattle.graph_find.specs.ReadHead.{IsHead}
 use Rattle.graph_find.specs.declared.head.Head.{Head}
 use Rattle.graph_find.proofs.HeadLemmas.{begins-filled}
+use Rattle.graph_parts.specs.Offsets.{date_in_layer, numbers_in_file, words_in_file}
 use Rattle.graph_parts.specs.PartFiles.{commits_in, edge_count, edge_words}
 use Rattle.graph_parts.specs.ShownLayer.{IsLayerParts, SeesMoreOfLayer, ShowsLayer}
 use Rattle.graph_parts.specs.PieceBlocks.{ReadsMore}
@@ -146,6 +150,37 @@ module _ (known : Option Tree) (part : LayerParts) (layer : Layer) (is : IsLayer
           is.edges.size
           ∙ ap (λ (n : ℕ). slice_range shows.of.file (n + 4 * index) (n + 4 * index + 4)) is.edges.start
 
+  -- all bytes of the file are those of the layer
+  shown-bytes : bytes_of layer ≡ shows.of.file
+  shown-bytes =
+      view-bytes shows.of.file (string_bytes part.file.path) part.file.head.layout layer kept (sym shows.of.decoded)
+
+  -- it has dates
+  pub shown-dates : IsTrue part.offsets.has_words → HasDates layer
+  shown-dates has =
+      subst (λ (bytes : List ℕ). chunk_of bytes (codes "GDA2") ≢ None) (sym shown-bytes)
+      (is.offsets.there has shows.of.file shows.of.begins)
+
+  -- the time at a position
+  shown-time : (pos : ℕ) → pos < commits_in part.file → slice_index (times_in layer) pos ≡ (record_at layer pos).time
+  unfolding record_at
+  shown-time pos within =
+      let many =
+      commits-records shows.of.file (string_bytes part.file.path) part.file.head.layout layer kept (sym shows.of.decoded) in
+      get_or-map (λ (r : Record). r.time) layer.records pos no_record 0 (omega (arith, within, many))
+      ∙ ap (λ (r : Record). r.time) (sym (unwrap_or-slice_get layer.records pos no_record))
+
+  -- the date at a position
+  pub shown-date : (pos time offset : ℕ) → pos < commits_in part.file → time ≡ (record_at layer pos).time
+      → offset_of (words_in_file shows.of.file) (numbers_in_file shows.of.file) pos ≡ Some offset
+      → min (time + offset) 18446744073709551615 ≡ date_in_layer layer pos
+  shown-date pos time offset within is-time is-offset =
+      let here : offset_of (offsets_in layer) (overflow_in layer) pos ≡ Some offset =
+      ap (λ (file : List ℕ). offset_of (words_in_file file) (numbers_in_file file) pos) shown-bytes ∙ is-offset in
+      ap (λ (n : ℕ). min n 18446744073709551615)
+      (ap (λ (n : ℕ). n + offset) (is-time ∙ sym (shown-time pos within))
+      ∙ ap (λ (o : Option ℕ). slice_index (times_in layer) pos + unwrap_or o 0) (sym here))
+
 -- what is seen stays seen
 pub sees-same : (known : Option Tree) (part : LayerParts) → SeesMoreOfLayer known part part
 sees-same known part = record { same = refl; kept = λ layer shows. shows; told = λ tree is layer shows. shows }
@@ -169,12 +204,14 @@ module _ (known : Option Tree) (part : LayerParts) (more : Pieces) where
       ids = reads.kept shows.of.file shows.ids;
       records = shows.records;
       edges = shows.edges;
+      offsets = shows.offsets;
     };
     told = λ tree is layer shows. record {
       of = shows.of;
       ids = reads.told tree is shows.of.file (shows.of.stands tree is) shows.ids;
       records = shows.records;
       edges = shows.edges;
+      offsets = shows.offsets;
     };
   }
 
@@ -188,6 +225,7 @@ module _ (known : Option Tree) (part : LayerParts) (more : Pieces) where
     sized_ids = reads.sized;
     sized_records = is.sized_records;
     sized_edges = is.sized_edges;
+    offsets = is.offsets;
   }
 
   pub sees-records : ReadsMore known (string_bytes part.file.path) part.records more
@@ -199,12 +237,14 @@ module _ (known : Option Tree) (part : LayerParts) (more : Pieces) where
       ids = shows.ids;
       records = reads.kept shows.of.file shows.records;
       edges = shows.edges;
+      offsets = shows.offsets;
     };
     told = λ tree is layer shows. record {
       of = shows.of;
       ids = shows.ids;
       records = reads.told tree is shows.of.file (shows.of.stands tree is) shows.records;
       edges = shows.edges;
+      offsets = shows.offsets;
     };
   }
 
@@ -218,6 +258,7 @@ module _ (known : Option Tree) (part : LayerParts) (more : Pieces) where
     sized_ids = is.sized_ids;
     sized_records = reads.sized;
     sized_edges = is.sized_edges;
+    offsets = is.offsets;
   }
 
   pub sees-edges : ReadsMore known (string_bytes part.file.path) part.edges more
@@ -229,12 +270,14 @@ module _ (known : Option Tree) (part : LayerParts) (more : Pieces) where
       ids = shows.ids;
       records = shows.records;
       edges = reads.kept shows.of.file shows.edges;
+      offsets = shows.offsets;
     };
     told = λ tree is layer shows. record {
       of = shows.of;
       ids = shows.ids;
       records = shows.records;
       edges = reads.told tree is shows.of.file (shows.of.stands tree is) shows.edges;
+      offsets = shows.offsets;
     };
   }
 
@@ -248,4 +291,5 @@ module _ (known : Option Tree) (part : LayerParts) (more : Pieces) where
     sized_ids = is.sized_ids;
     sized_records = is.sized_records;
     sized_edges = reads.sized;
+    offsets = is.offsets;
   }

@@ -1,6 +1,7 @@
 pub mod BlockLemmas
 pub mod LayerPartLemmas
 pub mod GivenLemmas
+pub mod OffsetLemmas
 pub mod ZipLemmas
 pub mod GraphPartLemmas
 pub mod OpeningLemmas

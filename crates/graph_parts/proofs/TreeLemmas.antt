@@ -10,6 +10,7 @@ use Rattle.graph_folder.specs.Tree.{Tree, file_at}
 use Rattle.graph_format.specs.Layer.{Layer, decoded_layer}
 use Rattle.graph_find.specs.declared.chain.ChainLayer.{ChainLayer}
 use Rattle.graph_parts.specs.OfTree.{AreOfTree, IsOfTree}
+use Rattle.graph_parts.specs.Offsets.{AreOffsetsOf}
 use Rattle.graph_parts.specs.PieceBlocks.{AreOf}
 use Rattle.graph_parts.specs.Shown.{SeesMore, Shows, files_of}
 use Rattle.graph_parts.specs.ShownLayer.{ShowsLayer}
@@ -36,6 +37,7 @@ module _ (known : Option Tree) (tree : Tree) (is : known ≡ Some tree) where
           ids = file.ids;
           records = file.records;
           edges = file.edges;
+          offsets = file.offsets;
         },
       )
 
@@ -51,6 +53,7 @@ module _ (known : Option Tree) (tree : Tree) (is : known ≡ Some tree) where
           ids = subst (AreOf part.ids) same shows.ids;
           records = subst (AreOf part.records) same shows.records;
           edges = subst (AreOf part.edges) same shows.edges;
+          offsets = subst (AreOffsetsOf part.offsets) same shows.offsets;
         };
   }
 

@@ -34,6 +34,15 @@ module _ {A B : Type 0} (R : A → B → Type 0) where
       (subst (λ (w : A). R w y) (sym (same_Some _ _ here)) (less y zip.0), zip.1)
   zip-unset (x ∷ xs) (y ∷ ys) (suc i) z new here less zip = (zip.0, zip-unset xs ys i z new here less zip.1)
 
+-- what each partner of such an element is, each partner is
+pub zip-all : {A B : Type 0} (P : A → Type 0) (R : A → B → Type 0) (Q : B → Type 0) → ((x : A) (y : B) → P x → R x y → Q y)
+    → (xs : List A) (ys : List B) → All P xs → AllZip R xs ys → All Q ys
+zip-all P R Q so [] [] all zip = All-nil Q
+zip-all P R Q so [] (y ∷ ys) all zip = absurd zip
+zip-all P R Q so (x ∷ xs) [] all zip = absurd zip
+zip-all P R Q so (x ∷ xs) (y ∷ ys) all zip =
+    All-cons Q y ys (so x y (All-head P x xs all) zip.0) (zip-all P R Q so xs ys (All-tail P x xs all) zip.1)
+
 module _ {A : Type 0} (P : A → Type 0) where
   pub all-get : (xs : List A) (i : ℕ) (x : A) → All P xs → slice_get xs i ≡ Some x → P x
   all-get [] i x all here = let clash : None ≡ Some x = here in cc

@@ -1,5 +1,6 @@
 pub mod PieceBlocks
 pub mod PiecesRead
+pub mod Offsets
 pub mod PartFiles
 pub mod Stored
 pub mod ShownLayer

@@ -3,6 +3,7 @@ use Rattle.std.specs.Prelude.{◌≡◌, List, ℕ, All, Option, Some, true, str
 use Rattle.std.specs.Option.{ForSome}
 use Rattle.gix_chunk_core.specs.FirstBytes.{BeginsWith}
 use Rattle.graph_folder.specs.Tree.{Tree, file_at, is_file}
+use Rattle.graph_parts.specs.Offsets.{AreOffsetsOf}
 use Rattle.graph_parts.specs.PieceBlocks.{AreOf}
 use Rattle.graph_parts.specs.declared.layer.LayerParts.{LayerParts}
 use Rattle.graph_parts.specs.declared.parts.GraphParts.{GraphParts}
@@ -13,6 +14,7 @@ pub record IsOfFile (part : LayerParts) (file : List ℕ) : Type 0 where
   pub ids : AreOf part.ids file
   pub records : AreOf part.records file
   pub edges : AreOf part.edges file
+  pub offsets : AreOffsetsOf part.offsets file
 
 -- A file stands at the path, and the parts are of it.
 pub record IsOfTree (tree : Tree) (part : LayerParts) : Type 0 where

@@ -6,6 +6,7 @@ use Rattle.graph_format.specs.Layer.{Layer}
 use Rattle.graph_find.specs.LayerFinding.{IsLayerOfHead}
 use Rattle.graph_find.specs.ReadHead.{IsHead}
 use Rattle.graph_parts.specs.PieceBlocks.{AreOf, AreSized, KeepsNothing}
+use Rattle.graph_parts.specs.Offsets.{AreLayerOffsets, AreOffsetsOf, KeepsNoOffset}
 use Rattle.graph_parts.specs.PartFiles.{AreIds, AreRecords, AreEdges}
 use Rattle.graph_parts.specs.declared.layer.LayerParts.{LayerParts}
 
@@ -18,6 +19,7 @@ pub record IsLayerParts (part : LayerParts) : Type 0 where
   pub sized_ids : AreSized part.ids
   pub sized_records : AreSized part.records
   pub sized_edges : AreSized part.edges
+  pub offsets : AreLayerOffsets part.file.head part.offsets
 
 -- The layer is that of a file which begins with the head and has all that is kept: where the tree is known, of the one
 -- at the path.
@@ -26,6 +28,7 @@ pub record ShowsLayer (known : Option Tree) (part : LayerParts) (layer : Layer) 
   pub ids : AreOf part.ids of.file
   pub records : AreOf part.records of.file
   pub edges : AreOf part.edges of.file
+  pub offsets : AreOffsetsOf part.offsets of.file
 
 -- nothing but the head was read: each layer of it is shown
 abbrev pub ShowsAll : LayerParts → Type 0
@@ -34,7 +37,8 @@ ShowsAll part = (known : Option Tree) (layer : Layer)
 
 -- nothing but the head is kept
 abbrev pub KeepsHeadAlone : LayerParts → Type 0
-KeepsHeadAlone part = KeepsNothing part.ids × KeepsNothing part.records × KeepsNothing part.edges
+KeepsHeadAlone part =
+    KeepsNothing part.ids × KeepsNothing part.records × KeepsNothing part.edges × KeepsNoOffset part.offsets
 
 -- More of the same file may be kept, where the tree is known those of its file.
 pub record SeesMoreOfLayer (known : Option Tree) (old new : LayerParts) : Type 0 where

@@ -1,22 +1,25 @@
 //! The parts of one layer's file.
 
-ghost use Rattle.std.specs.Prelude.{◌≡◌, ◌<◌, ◌+◌, IfOk, IfSome, Option, Some, length};
+ghost use Rattle.std.specs.Prelude.{◌≡◌, ◌<◌, ◌+◌, IfOk, IfSome, IsTrue, Option, Some, length};
 ghost use Rattle.std.specs.Prelude.{slice_get, slice_index};
 ghost use Rattle.gix_hash_core.specs.Kind.{id_len};
 ghost use Rattle.graph_folder.specs.Tree.{Tree};
 ghost use Rattle.graph_folder.specs.Failures.{failures_after};
 ghost use Rattle.graph_format.specs.Format.{record_of};
 ghost use Rattle.graph_format.specs.Layer.{Layer, record_at};
+ghost use Rattle.graph_format.specs.OptionalChunks.{HasDates};
 ghost use Rattle.graph_format.specs.Parents.{extra_edge_of};
 ghost use Rattle.graph_find.specs.ReadHead.{IsHead};
 ghost use Rattle.graph_parts.specs.PieceBlocks.{IsPieceKept};
 ghost use Rattle.graph_parts.specs.PartFiles.{AreIds, AreRecords, AreEdges, commits_in, edge_count};
 ghost use Rattle.graph_parts.specs.PartFiles.{edge_words};
 ghost use Rattle.graph_parts.specs.PiecesRead.{LayerPartsWereRead};
+ghost use Rattle.graph_parts.specs.Offsets.{date_in_layer};
 ghost use Rattle.graph_parts.specs.Stored.{StoresCommit};
 ghost use Rattle.graph_parts.specs.ShownLayer.{IsLayerParts, KeepsHeadAlone, SeesMoreOfLayer};
 ghost use Rattle.graph_parts.specs.ShownLayer.{ShowsAll, ShowsLayer};
 
+use crate::offsets::LayerOffsets;
 use crate::pieces::{Kept, Pieces, Series};
 use gix_hash_core::{Kind, ObjectId, oid};
 use graph_find::chain::ChainLayer;
@@ -44,14 +47,15 @@ pub struct StoredCommit {
     pub second: ParentEdge,
 }
 
-/// The file of a layer, and what was read of its ids, its records and the words of its extra edge
-/// list.
+/// The file of a layer, and what was read of its ids, its records, the words of its extra edge list
+/// and its corrected dates.
 #[derive(Drop)]
 pub(crate) struct LayerParts {
     pub(crate) file: ChainLayer,
     pub(crate) ids: Pieces,
     records: Pieces,
     edges: Pieces,
+    offsets: LayerOffsets,
 }
 
 /// Where the ids of the file with this head lie ("OID Lookup").
@@ -113,12 +117,14 @@ impl LayerParts {
             records_of(&file.head),
             edges_in(&file.head),
         );
+        let offsets = LayerOffsets::new(alloc, &file.head);
         LayerParts {
             file,
             ids: Pieces::new(alloc, ids, ids.whole_blocks()),
             records: Pieces::new(alloc, records, records.whole_blocks()),
             // The words of a list lie one after another.
             edges: Pieces::new(alloc, edges, 0),
+            offsets,
         }
     }
 
@@ -216,6 +222,49 @@ impl LayerParts {
         };
         let fields = self.records.piece(index, kept);
         Ok(Some(commit_of(self.file.head.layout.kind, fields)))
+    }
+
+    /// Whether the layer has corrected dates, with a word for each of its commits.
+    pub(crate) fn has_dates(&self) -> bool
+        requires { IsLayerParts self.now }
+        ensures { IsTrue result → (known : Option Tree) (layer : Layer)
+            → ShowsLayer known self.now layer → HasDates layer }
+    {
+        self.offsets.has_words() && self.offsets.count() >= self.file.head.layout.commits as usize
+    }
+
+    /// The corrected date that is stored of the commit at a position of the layer, up to the
+    /// greatest number of 64 bits. `None` where none is, and where its file no longer has the
+    /// length that it had, or is to be read whole.
+    pub(crate) fn date_at<T: Folder>(
+        &mut self,
+        alloc: Global,
+        folder: &mut T,
+        pos: u32,
+    ) -> Result<Option<u64>, ReadError>
+        requires parts { IsLayerParts self.old }
+        requires pos { pos < commits_in self.old.file }
+        ensures parts { IsLayerParts self.new }
+        ensures sees { SeesMoreOfLayer (T.tree folder.old) self.old self.new }
+        ensures given { LayerPartsWereRead T.gives_part self.old
+            → LayerPartsWereRead T.gives_part self.new }
+        ensures date { IfOk result (λ answer. IfSome answer (λ date. (layer : Layer)
+            → ShowsLayer (T.tree folder.old) self.new layer → date ≡ date_in_layer layer pos)) }
+        ensures tree { T.tree folder.new ≡ T.tree folder.old }
+        ensures failures { T.failure_count folder.new
+            ≡ failures_after result (T.failure_count folder.old) }
+    {
+        let Some(commit) = self.commit_at(alloc, folder, pos)? else {
+            return Ok(None);
+        };
+        let (path, head) = (self.file.path.as_str(), &self.file.head);
+        let Some(offset) = self
+            .offsets
+            .offset(alloc, folder, path, head, pos as usize)?
+        else {
+            return Ok(None);
+        };
+        Ok(Some(commit.time.saturating_add(offset)))
     }
 
     /// How many words the extra edge list of the layer has, 0 where it has no such list.

@@ -5,6 +5,7 @@
 mod guesses;
 mod layer;
 mod lookup;
+mod offsets;
 pub mod opening;
 pub mod parts;
 mod pieces;

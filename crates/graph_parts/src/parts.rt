@@ -1,11 +1,12 @@
 //! The commits of a graph, of whose files parts are read.
 
-ghost use Rattle.std.specs.Prelude.{◌≡◌, ◌<◌, List, IfOk, IfSome, Option, Some, length};
-ghost use Rattle.std.specs.Prelude.{slice_get};
+ghost use Rattle.std.specs.Prelude.{◌≡◌, ◌<◌, List, All, IfOk, IfSome, IsTrue, Option, Some};
+ghost use Rattle.std.specs.Prelude.{length, slice_get};
 ghost use Rattle.gix_hash_core.specs.Oid.{oid_bytes};
 ghost use Rattle.graph_folder.specs.Tree.{Tree};
 ghost use Rattle.graph_folder.specs.Failures.{failures_after};
 ghost use Rattle.graph_format.specs.Layer.{Layer};
+ghost use Rattle.graph_format.specs.OptionalChunks.{HasDates};
 ghost use Rattle.gix_commitgraph.specs.Graph.{graph_ids, total};
 ghost use Rattle.gix_commitgraph.specs.GraphLaw.{LiesIn};
 ghost use Rattle.graph_parts.specs.Lookups.{LiesWithin, LooksUp};
@@ -13,6 +14,7 @@ ghost use Rattle.graph_parts.specs.PiecesRead.{PartsWereRead};
 ghost use Rattle.graph_parts.specs.Shown.{AreGraphParts, SeesMore, Shows, commits_of_parts};
 ghost use Rattle.graph_parts.specs.Shown.{edge_count_at, files_of};
 ghost use Rattle.graph_parts.specs.Spots.{IsSpotOf, LiesInFile};
+ghost use Rattle.graph_parts.specs.Offsets.{StoresDate};
 ghost use Rattle.graph_parts.specs.Stored.{StoresAt, StoresEdge};
 
 use crate::layer::LayerParts;
@@ -112,6 +114,48 @@ impl GraphParts {
     {
         let spot = self.spot_of(pos);
         self.layers[spot.layer].commit_at(alloc, folder, spot.pos)
+    }
+
+    /// Whether each layer has corrected dates, with a word for each of its commits.
+    pub fn has_dates(&self) -> bool
+        requires { AreGraphParts self.now }
+        ensures { IsTrue result → (known : Option Tree) (layers : List Layer)
+            → Shows known self.now layers → All HasDates layers }
+    {
+        for part in &self.layers {
+            if !part.has_dates() {
+                return false;
+            }
+        }
+        true
+    }
+
+    /// The corrected date that is stored of the commit at a position of the graph, up to the
+    /// greatest number of 64 bits: its time and what its layer adds to that. `None` also where
+    /// nothing is stored.
+    ///
+    /// # Errors
+    ///
+    /// Those of a read.
+    pub fn date_at<T: Folder>(
+        &mut self,
+        alloc: Global,
+        folder: &mut T,
+        pos: Position,
+    ) -> Result<Option<u64>, ReadError>
+        requires parts { AreGraphParts self.old }
+        requires pos { pos.0 < commits_of_parts self.old }
+        ensures parts { AreGraphParts self.new }
+        ensures sees { SeesMore (T.tree folder.old) self.old self.new }
+        ensures given { PartsWereRead T.gives_part self.old → PartsWereRead T.gives_part self.new }
+        ensures stores { IfOk result (λ answer. IfSome answer (λ date. (layers : List Layer)
+            → Shows (T.tree folder.old) self.new layers → StoresDate layers pos.0 date)) }
+        ensures tree { T.tree folder.new ≡ T.tree folder.old }
+        ensures failures { T.failure_count folder.new
+            ≡ failures_after result (T.failure_count folder.old) }
+    {
+        let spot = self.spot_of(pos);
+        self.layers[spot.layer].date_at(alloc, folder, spot.pos)
     }
 
     /// The id of the commit at a position of the graph.

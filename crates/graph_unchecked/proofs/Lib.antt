@@ -1,5 +1,6 @@
 pub mod FailureLemmas
 pub mod FieldLemmas
+pub mod DatedLemmas
 pub mod SourceLemmas
 pub mod SearchLemmas
 pub mod IdLemmas

@@ -10,7 +10,7 @@ use Rattle.gix_commitgraph.specs.Sound.{Sound}
 use Rattle.graph_parts.specs.PathOpening.{opened_at}
 use Rattle.graph_unchecked.specs.RightAnswers.{IsIdComparisonOf, IsScanned, IsScannedAmong, IsScannedBetween}
 use Rattle.graph_unchecked.specs.RightAnswers.{IsShortestWalkOfIds, IsToldExactly}
-use Rattle.graph_unchecked.specs.Unchecked.{IsAnswerAt, IsComparedUnchecked, IsFoundAmong, IsFoundBetween}
+use Rattle.graph_unchecked.specs.Unchecked.{HasNoWrongDate, IsAnswerAt, IsComparedUnchecked, IsFoundAmong, IsFoundBetween}
 use Rattle.graph_unchecked.specs.Unchecked.{IsToldUnchecked, IsWalkUnchecked}
 use Rattle.answers.specs.declared.answer.Answer.{Answer}
 use Rattle.answers.specs.declared.comparison.IdComparison.{IdComparison}
@@ -35,8 +35,9 @@ shortest-walk layers first second (Some ids) sound so = so.shortest sound.genera
 shortest-walk layers first second None sound so = so.none sound.generations
 
 exact-comparison : (layers : List Layer) (first : ℕ) (others : List ℕ) (answer : IdComparison (Vec (List ℕ) Global))
-    → Sound layers → IsComparedUnchecked layers first others answer → IsIdComparisonOf layers first others answer
-exact-comparison layers first others answer sound so = (so.exact sound.generations, so.ids)
+    → Sound layers → HasNoWrongDate layers → IsComparedUnchecked layers first others answer
+    → IsIdComparisonOf layers first others answer
+exact-comparison layers first others answer sound dated so = (so.exact sound.generations dated, so.ids)
 
 module _ (law : (layers : List Layer) (id : List ℕ) (answer : Option ℕ) → Sound layers → FoundIn layers id answer
     → answer ≡ scan (graph_ids layers) id) (layers : List Layer) (sound : Sound layers) where
@@ -73,10 +74,10 @@ module _ (law : (layers : List Layer) (id : List ℕ) (answer : Option ℕ) → 
       between IsWalkUnchecked IsShortestWalkOfIds (λ p q ids. shortest-walk layers p q ids sound) first second answer
       (at-layers tree path (IsFoundBetween IsWalkUnchecked first second) answer layers opens at)
 
-  pub comparison-right : (tree : Tree) (path : List ℕ) (ids : List (List ℕ))
+  pub comparison-right : HasNoWrongDate layers → (tree : Tree) (path : List ℕ) (ids : List (List ℕ))
       (answer : Answer (IdComparison (Vec (List ℕ) Global)))
       → opened_at tree path ≡ Ok layers → IsAnswerAt tree path (IsFoundAmong IsComparedUnchecked ids) answer
       → IsScannedAmong IsIdComparisonOf ids layers answer
-  comparison-right tree path ids answer opens at =
-      among IsComparedUnchecked IsIdComparisonOf (λ p others found. exact-comparison layers p others found sound) ids answer
+  comparison-right dated tree path ids answer opens at =
+      among IsComparedUnchecked IsIdComparisonOf (λ p others found. exact-comparison layers p others found sound dated) ids answer
       (at-layers tree path (IsFoundAmong IsComparedUnchecked ids) answer layers opens at)

@@ -15,7 +15,7 @@ use Rattle.graph_format.specs.declared.parents.ParentEdge.{ParentEdge}
 use Rattle.gix_commitgraph.specs.Graph.{IsGraph, graph_commits, start, total}
 use Rattle.gix_commitgraph.specs.GraphLaw.{LiesIn}
 use Rattle.commit_search.specs.EdgeLists.{list_in, list_of}
-use Rattle.commit_search.specs.Source.{AreFieldsRead, AreFieldsTold, IsNextListed, IsWordRead, IsWordTold, Told, told_of}
+use Rattle.commit_search.specs.Source.{AreFieldsRead, AreFieldsTold, IsNextListed, IsWordRead, IsWordTold, Told}
 use Rattle.graph_find.specs.declared.chain.ChainLayer.{ChainLayer}
 use Rattle.graph_parts.specs.PartFiles.{commits_in_all, edge_words}
 use Rattle.graph_parts.specs.Shown.{AreGraphParts, SeesMore, Shows, commits_of_parts, edge_count_at, files_of}
@@ -26,7 +26,9 @@ use Rattle.graph_parts.specs.declared.parts.GraphParts.{GraphParts}
 use Rattle.graph_parts.proofs.GraphPartLemmas.{count-files, edges-long, spot-lies}
 use Rattle.graph_parts.proofs.TreeLemmas.{seen-more}
 use Rattle.graph_parts.proofs.SpotLemmas.{one-file}
-use Rattle.graph_unchecked.specs.PartSource.{AreFieldsThere, IsWordOf, IsWordThere, ReadsOn, PartsTell, word_total}
+use Rattle.graph_unchecked.specs.PartSource.{AreFieldsThere, IsWordOf, IsWordThere, ReadsOn, PartsTell, told_with_dates}
+use Rattle.graph_unchecked.specs.PartSource.{word_total}
+use Rattle.graph_unchecked.proofs.DatedLemmas.{lists-below}
 use Rattle.graph_unchecked.proofs.FieldLemmas.{fields-told, first-within, named_by_fields, second-within}
 
 -- more is read
@@ -46,6 +48,11 @@ reads_on known old new right sees = record {
 -- the files have as many commits as the parts
 pub as_many : (parts : GraphParts) → commits_in_all (files_of parts) ≡ commits_of_parts parts
 as_many parts = count-files parts.layers.items
+
+-- and do so after more was read
+pub same-count : (known : Option Tree) (old new : GraphParts) → ReadsOn known old new
+    → commits_of_parts new ≡ commits_of_parts old
+same-count known old new reads = sym (as_many new) ∙ ap commits_in_all reads.same ∙ as_many old
 
 -- the generation number that is read
 pub number-told : (known : Option Tree) (parts : GraphParts) (p : ℕ) (commit : StoredCommit)
@@ -99,17 +106,18 @@ module _ (known : Option Tree) (parts : GraphParts) (files : List ChainLayer) (s
       listed index lt m at = subst (λ (k : ℕ). index < word_total files k) (one-file files p l m lies at) lt
 
       told-of-layers : (layers : List Layer) → Shows known parts layers → IsGraph layers
-          → AreFieldsTold (told_of layers) (LiesInFile files p) p (commit.first, commit.second)
+          → AreFieldsTold (told_with_dates layers) (LiesInFile files p) p (commit.first, commit.second)
       told-of-layers layers shows graph =
           let at = stores layers shows in
           let count : commits_in_all files ≡ length (history_of layers) = counted layers shows ∙ sym (long layers graph) in
           let place = placed layers at.pos at.layer at.stands in
           let below : p < total layers = omega (arith, within, counted layers shows) in
-          fields-told (history_of layers) p at.layer.edges (list_in layers) (LiesInFile files p)
+          fields-told (history_of layers) p at.layer.edges (told_with_dates layers).lists (LiesInFile files p)
           (omega (arith, within, count))
           (λ k lies_at.
           let other = lies-there layers k shows lies_at in
-          list-at layers p place.0 k at.layer other.0 (λ a b x y. one layers a b x y below) place.1 other.1)
+          lists-below layers k other.0 other.1.there
+          ∙ list-at layers p place.0 k at.layer other.0 (λ a b x y. one layers a b x y below) place.1 other.1)
           (word_total files l) commit.first commit.second
           (parents layers at.pos at.layer graph at.stands
           ∙ ap (λ (f : ParentEdge). named_by_fields (both_parents f (edge_of (record_at at.layer at.pos).parent2) at.layer.edges))
@@ -143,11 +151,11 @@ module _ (known : Option Tree) (parts : GraphParts) (files : List ChainLayer) (s
             λ m at. subst (λ (k : ℕ). index + 1 < word_total files k) (one-file files p l m lies at) lt,
           )
 
-      word-told : (layers : List Layer) → Shows known parts layers → IsWordTold (told_of layers) l index word
+      word-told : (layers : List Layer) → Shows known parts layers → IsWordTold (told_with_dates layers) l index word
       word-told layers shows =
           let at = says layers shows in
-          let list : list_in layers l ≡ edge_words at.layer =
-          ap (λ (o : Option Layer). option_map_or list_of o []) at.there in
+          let list : (told_with_dates layers).lists l ≡ edge_words at.layer =
+          lists-below layers l at.layer at.there ∙ ap (λ (o : Option Layer). option_map_or list_of o []) at.there in
           let long = edges-long known parts layers l at.layer right shows at.there in
           let few : index < edge_count_at parts l =
           few-words (edge_count_at parts l) index

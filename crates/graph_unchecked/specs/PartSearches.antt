@@ -9,8 +9,9 @@ use Rattle.gix_commitgraph.specs.Graph.{total}
 use Rattle.commit_search.specs.WalkAnswer.{IsShortestWalk}
 use Rattle.commit_search.specs.Positions.{numbers_of}
 use Rattle.graph_bases.specs.Bases.{IsCommonAncestor}
-use Rattle.graph_bases.specs.Comparison.{IsComparisonIn}
 use Rattle.graph_bases.specs.declared.bases.Comparison.{Comparison}
+use Rattle.graph_history.specs.GraphComparison.{IsComparisonInOrder}
+use Rattle.graph_unchecked.specs.Unchecked.{HasNoWrongDate}
 
 -- A walk from the first commit to the second.
 pub record IsStepsUnchecked (layers : List Layer) (first second : ℕ) (answer : Option (Vec Position Global)) : Type 0 where
@@ -24,4 +25,4 @@ pub record AreBasesUnchecked (layers : List Layer) (first : ℕ) (others : List 
   pub within : All (λ base. base.0 < total layers) answer.bases.positions.items
   pub common : All (λ base. IsCommonAncestor (history_of layers) first others base.0) answer.bases.positions.items
   pub visits : answer.bases.visits ≤ 3 * total layers
-  pub exact : CountWalks (history_of layers) → IsComparisonIn (history_of layers) first others answer
+  pub exact : CountWalks (history_of layers) → HasNoWrongDate layers → IsComparisonInOrder layers first others answer

@@ -1,5 +1,5 @@
 -- what a source of commits says whose files are read by parts
-use Rattle.std.specs.Prelude.{◌≡◌, ℕ, ◌+◌, ◌<◌, List, Option, min, slice_get}
+use Rattle.std.specs.Prelude.{◌≡◌, ℕ, ◌+◌, ◌<◌, List, Option, length, min, nat_lt, if◌then◌else◌, slice_get}
 use Rattle.std.specs.Option.{option_map_or}
 use Rattle.graph_folder.specs.Tree.{Tree}
 use Rattle.graph_format.specs.Layer.{Layer}
@@ -8,8 +8,11 @@ use Rattle.graph_format.specs.declared.parents.ExtraEdge.TheVariants as extra
 use Rattle.graph_format.specs.declared.parents.ParentEdge.{ParentEdge}
 use Rattle.graph_format.specs.declared.parents.ParentEdge.TheVariants as edge
 use Rattle.gix_commitgraph.specs.Graph.{IsGraph}
-use Rattle.commit_search.specs.EdgeLists.{named_by}
-use Rattle.commit_search.specs.Source.{IsFieldWithin, Told, told_of}
+use Rattle.graph_format.specs.StoredHistory.{history_of}
+use Rattle.commit_search.specs.EdgeLists.{list_in, named_by}
+use Rattle.commit_search.specs.Ranks.{Ranking, by_date}
+use Rattle.commit_search.specs.Source.{IsFieldWithin, Told}
+use Rattle.graph_chunks.specs.GraphStoredDates.{dates_of}
 use Rattle.graph_find.specs.declared.chain.ChainLayer.{ChainLayer}
 use Rattle.graph_parts.specs.PartFiles.{edge_count}
 use Rattle.graph_parts.specs.OfTree.{AreOfTree}
@@ -34,12 +37,27 @@ word_total files l = min (option_map_or edge_count (slice_get files l) 0) 429496
 abbrev pub IsWordOf : List ChainLayer → ℕ → ℕ → Type 0
 IsWordOf files p index = (l : ℕ) → LiesInFile files p l → index < word_total files l
 
+-- what a graph tells, also of the corrected dates that it stores: they are the list of each number that is none of a layer
+abbrev pub told_with_dates : List Layer → Told
+told_with_dates layers = record {
+  history = history_of layers;
+  lists = λ l. if nat_lt l (length layers) then list_in layers l else dates_of layers;
+}
+
+-- a number that is none of a layer: so many layers no graph has
+abbrev pub past_all_layers : ℕ
+past_all_layers = 18446744073709551616
+
+-- the corrected dates that are told
+abbrev pub told_dates : Told → Ranking
+told_dates t = by_date (t.lists past_all_layers)
+
 -- The parts say what some graph tells that they show.
 pub record PartsTell (known : Option Tree) (parts : GraphParts) (t : Told) : Type 0 where
   pub layers : List Layer
   pub shows : Shows known parts layers
   pub graph : IsGraph layers
-  pub told : t ≡ told_of layers
+  pub told : t ≡ told_with_dates layers
 
 -- More is read of the same files: what is told after is what was told before, and parts of a tree stay so.
 pub record ReadsOn (known : Option Tree) (old new : GraphParts) : Type 0 where

@@ -9,7 +9,7 @@ use Rattle.gix_commitgraph.specs.Graph.{graph_ids}
 use Rattle.gix_commitgraph.specs.IdWalks.{ids_at}
 use Rattle.commit_search.specs.WalkAnswer.{IsShortestWalk}
 use Rattle.commit_search.specs.Positions.{numbers_of}
-use Rattle.graph_history.specs.GraphComparison.{IsComparisonOf}
+use Rattle.graph_history.specs.GraphComparison.{IsComparisonInOrder}
 use Rattle.answers.specs.FoundOf.{IsFoundOf, OfFirst, OfTwo}
 use Rattle.answers.specs.declared.answer.Answer.{Answer}
 use Rattle.answers.specs.declared.comparison.IdComparison.{IdComparison}
@@ -27,7 +27,7 @@ IsShortestWalkOfIds layers first second None = ¬ Reaches (history_of layers) fi
 -- what the first commit and the others have in common, and the ids of the merge bases
 abbrev pub IsIdComparisonOf : List Layer → ℕ → List ℕ → IdComparison (Vec (List ℕ) Global) → Type 0
 IsIdComparisonOf layers first others answer =
-    IsComparisonOf layers first others answer.comparison
+    IsComparisonInOrder layers first others answer.comparison
     × (answer.base_ids.items ≡ ids_at layers (numbers_of answer.comparison.bases.positions.items))
 
 -- a scan of all ids finds the least position of an id, or none

@@ -4,6 +4,7 @@ use Rattle.std.specs.Global.{Global}
 use Rattle.graph_walks.specs.Walks.{CountWalks, IsWalkBetween, Reaches}
 use Rattle.graph_folder.specs.Tree.{Tree}
 use Rattle.graph_format.specs.Layer.{Layer}
+use Rattle.graph_format.specs.OptionalChunks.{HasDates}
 use Rattle.graph_format.specs.StoredHistory.{history_of}
 use Rattle.gix_commitgraph.specs.Graph.{IsGraph, total}
 use Rattle.gix_commitgraph.specs.GraphLookup.{FoundIn}
@@ -11,7 +12,8 @@ use Rattle.gix_commitgraph.specs.IdWalks.{ids_at}
 use Rattle.commit_search.specs.WalkAnswer.{IsShortestWalk}
 use Rattle.commit_search.specs.Positions.{numbers_of}
 use Rattle.graph_bases.specs.Bases.{IsCommonAncestor}
-use Rattle.graph_history.specs.GraphComparison.{IsComparisonOf}
+use Rattle.graph_chunks.specs.GraphStoredDates.{dates_of}
+use Rattle.graph_history.specs.GraphComparison.{AreDatesOf, IsComparisonInOrder}
 use Rattle.graph_parts.specs.PathOpening.{opened_at}
 use Rattle.answers.specs.FoundOf.{IsFoundOf, OfFirst, OfTwo}
 use Rattle.answers.specs.declared.answer.Answer.{Answer}
@@ -32,14 +34,19 @@ pub record IsWalkUnchecked (layers : List Layer) (first second : ℕ) (answer : 
       (walk : List ℕ) × IsShortestWalk (history_of layers) first second walk × (ids.items ≡ ids_at layers walk))
   pub none : CountWalks (history_of layers) → IfNone answer (¬ Reaches (history_of layers) first second)
 
+-- none of the corrected dates is wrong: if each layer has dates, they are right
+abbrev pub HasNoWrongDate : List Layer → Type 0
+HasNoWrongDate layers = All HasDates layers → AreDatesOf layers (dates_of layers)
+
 -- What the first commit and the others have in common, and the ids of the merge bases: in any graph each base is a common
 -- ancestor, and no commit is visited more than three times; where each generation number counts the commits of the longest walk,
--- the bases, the numbers on one side alone and the visits are exact.
+-- and no corrected date is wrong, the bases, the numbers on one side alone and the visits are exact.
 pub record IsComparedUnchecked (layers : List Layer) (first : ℕ) (others : List ℕ)
     (answer : IdComparison (Vec (List ℕ) Global)) : Type 0 where
   pub common : All (λ base. IsCommonAncestor (history_of layers) first others base.0) answer.comparison.bases.positions.items
   pub visits : answer.comparison.bases.visits ≤ 3 * total layers
-  pub exact : CountWalks (history_of layers) → IsComparisonOf layers first others answer.comparison
+  pub exact : CountWalks (history_of layers) → HasNoWrongDate layers
+      → IsComparisonInOrder layers first others answer.comparison
   pub ids : answer.base_ids.items ≡ ids_at layers (numbers_of answer.comparison.bases.positions.items)
 
 -- what is found of the commits with two ids: which of them a lookup does not find, or what is so of the commits that it finds

@@ -1,6 +1,7 @@
 //! Questions about commits of a graph that is trusted: its files are read by parts, unchecked.
 #![tactic(auto)]
 
+mod dates;
 mod fields;
 mod ids;
 pub mod law;

@@ -6,7 +6,8 @@ ghost use Rattle.commit_search.specs.Source.{AreFieldsRead, IsWordRead, Told};
 ghost use Rattle.graph_parts.specs.PartFiles.{commits_in_all};
 ghost use Rattle.graph_parts.specs.Shown.{AreGraphParts, files_of};
 ghost use Rattle.graph_parts.specs.Spots.{LiesInFile};
-ghost use Rattle.graph_unchecked.specs.PartSource.{IsWordOf, PartsTell, ReadsOn, word_total};
+ghost use Rattle.graph_unchecked.specs.PartSource.{IsWordOf, PartsTell, ReadsOn, told_dates};
+ghost use Rattle.graph_unchecked.specs.PartSource.{word_total};
 ghost use Rattle.graph_unchecked.specs.Unread.{failures_after_reads};
 
 use crate::fields::{are_fields_there, is_word_there, words_in};
@@ -43,6 +44,30 @@ pub(crate) fn read_number<T: Folder>(
         return Err(Unread::NotByParts);
     };
     Ok(commit.generation)
+}
+
+/// The corrected date that is stored of the commit at a position, up to the greatest number of 64
+/// bits.
+#[tactic(auto, using(crate::proofs::SourceLemmas::reads_on, crate::proofs::SourceLemmas::as_many))]
+pub(crate) fn read_date<T: Folder>(
+    alloc: Global,
+    folder: &mut T,
+    parts: &mut GraphParts,
+    pos: Position,
+) -> Result<u64, Unread>
+    requires parts { AreGraphParts parts.old }
+    requires pos { pos.0 < commits_in_all (files_of parts.old) }
+    ensures reads { ReadsOn (T.tree folder.old) parts.old parts.new }
+    ensures date { IfOk result (λ date. (t : Told) → PartsTell (T.tree folder.old) parts.new t
+        → date ≡ (told_dates t).rank pos.0) }
+    ensures tree { T.tree folder.new ≡ T.tree folder.old }
+    ensures failures { T.failure_count folder.new
+        ≡ failures_after_reads result (T.failure_count folder.old) }
+{
+    match parts.date_at(alloc, folder, pos)? {
+        Some(date) => Ok(date),
+        None => Err(Unread::NotByParts),
+    }
 }
 
 /// What both parent fields of the commit at a position say. They are refused where they cannot be

@@ -24,7 +24,7 @@ use std::alloc::Global;
 
 /// The commits of files of which parts are read. Where it is known what stands in the folder, the
 /// parts that are kept are of its files. No call answers `Device`: that a read failed is kept, and
-/// `unless_failed` answers it.
+/// `unless_failed` answers it. The parents of so many commits are read alone, and then no more.
 #[derive(Drop)]
 pub(crate) struct PartCommits<'a, T: Folder> {
     pub(crate) alloc: Global,
@@ -34,6 +34,8 @@ pub(crate) struct PartCommits<'a, T: Folder> {
     pub(crate) failures: u64,
     /// Whether one has failed since. Nothing more is read then.
     pub(crate) failed: bool,
+    /// The parents of how many more commits are read.
+    pub(crate) left: u32,
     ghost right: { AreGraphParts parts.now } by { graph_parts_prop parts.now },
     ghost of: { AreOfTree (T.tree folder.now) parts.now } by { Prim.hlevel props },
     ghost counted: { T.failure_count folder.now ≡ failures_met failed failures },
@@ -100,9 +102,10 @@ impl<'a, T: Folder> CommitSource for PartCommits<'a, T> {
     }
 
     fn parent_fields(&mut self, pos: Position) -> Result<(ParentEdge, ParentEdge), Unread> {
-        if self.failed {
+        if self.failed || self.left == 0 {
             return Err(Unread::NotByParts);
         }
+        self.left -= 1;
         match read_fields(self.alloc, self.folder, self.parts, pos) {
             Err(Unread::Device) => {
                 self.failed = true;

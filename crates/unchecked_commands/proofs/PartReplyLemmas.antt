@@ -1,15 +1,13 @@
 -- From what is read by parts to what may be answered.
-use Rattle.std.proofs.Common.{◌≡◌, ◌≢◌, ℕ, List, [], ◌∷◌, Bool, Option, Some, None, Ok, Vec, refl, sym, inl, option_map}
+use Rattle.std.proofs.Common.{◌≡◌, ◌≢◌, ℕ, List, [], ◌∷◌, Bool, Option, Some, None, Ok, Vec, sym, option_map}
 use Rattle.std.specs.Global.{Global}
 use Rattle.std.specs.Option.{ForSome}
 use Rattle.graph_folder.specs.Tree.{Tree}
 use Rattle.graph_format.specs.Layer.{Layer}
-use Rattle.graph_format.specs.StoredHistory.{history_of}
 use Rattle.graph_format.specs.declared.Position.{Position}
 use Rattle.gix_commitgraph.specs.GraphLookup.{FoundIn}
 use Rattle.gix_commitgraph.specs.Sound.{Sound}
 use Rattle.gix_commitgraph.proofs.sound.SoundLemmas.{sound-scanned}
-use Rattle.commit_search.specs.Ranks.{by_generation}
 use Rattle.graph_parts.specs.declared.layer.StoredCommit.{StoredCommit}
 use Rattle.graph_unchecked.specs.Trusted.{AreIdsOfParents, AreParentsFound, IsCommitFound}
 use Rattle.graph_unchecked.specs.Unchecked.{IsAnswerAt, IsComparedUnchecked, IsFoundAmong, IsFoundBetween, IsToldUnchecked}
@@ -102,11 +100,11 @@ module _ (layers : List Layer) where
       → IsFoundAmong IsComparedUnchecked (first ∷ others.items) layers compared
       → IsReplyByParts layers (question.MergeBase first others) (listed_reply (reply.Compared compared))
   replies-compared first others compared so = record {
-    right = λ sound.
-        found_as (FoundIn layers) (Scans layers) (scans sound) (OfFirst (IsComparedUnchecked layers))
+    right = λ right.
+        found_as (FoundIn layers) (Scans layers) (scans right.0) (OfFirst (IsComparedUnchecked layers))
         (OfFirst (AreBasesOf layers)) (first ∷ others.items) listed_comparison compared
         (all_so listed_comparison (IsComparedUnchecked layers) (AreBasesOf layers)
-        (λ p rest known is. ((by_generation (history_of layers), inl refl, is.exact sound.generations), is.ids))) so;
+        (λ p rest known is. (is.exact right.0.generations right.1, is.ids))) so;
     there = found_as (FoundIn layers) (FoundIn layers) there (OfFirst (IsComparedUnchecked layers))
         (OfFirst (AreBasesThere layers)) (first ∷ others.items) listed_comparison compared
         (all_so listed_comparison (IsComparedUnchecked layers) (AreBasesThere layers)

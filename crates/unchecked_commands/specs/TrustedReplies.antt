@@ -12,6 +12,7 @@ use Rattle.gix_commitgraph.specs.Sound.{Sound}
 use Rattle.commit_search.specs.Positions.{numbers_of}
 use Rattle.graph_bases.specs.Bases.{IsCommonAncestor}
 use Rattle.graph_parts.specs.declared.layer.StoredCommit.{StoredCommit}
+use Rattle.graph_unchecked.specs.Unchecked.{HasNoWrongDate}
 use Rattle.answers.specs.FoundOf.{IsFoundOf, OfFirst, OfOne, OfTwo}
 use Rattle.answers.specs.declared.comparison.IdComparison.{IdComparison}
 use Rattle.answer_lines.specs.Replies.{ListedReply}
@@ -55,10 +56,16 @@ IsThereFor layers (Parents id) (reply.Parents parents) =
     IsFoundOf (FoundIn layers) (OfOne (AreParentIds layers)) (id ∷ []) parents
 IsThereFor layers asked answer = ⊥
 
+-- a graph is right, as far as a question asks for it: the check accepts it; and where merge bases are asked for, none of its
+-- corrected dates is wrong
+abbrev pub IsRightFor : List Layer → Question → Type 0
+IsRightFor layers (MergeBase first others) = Sound layers × HasNoWrongDate layers
+IsRightFor layers asked = Sound layers
+
 -- What is answered over a graph that is not checked. Where it is right, that is what is answered over one that is checked. In
 -- any graph it is there.
 pub record IsReplyByParts (layers : List Layer) (asked : Question) (answer : ListedReply) : Type 0 where
-  pub right : Sound layers → IsReplyTo layers asked answer
+  pub right : IsRightFor layers asked → IsReplyTo layers asked answer
   pub there : IsThereFor layers asked answer
 
 -- what may be answered to a question over a graph that is trusted: what is read by parts; or what may be answered where the graph

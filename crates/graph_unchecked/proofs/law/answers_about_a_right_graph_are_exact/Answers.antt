@@ -11,5 +11,5 @@ returns-clause-walk c = λ tree path first second layers answer opens sound.
     walk-right c.a_lookup_in_a_right_graph_is_a_scan.ensures layers sound tree path first second answer opens
 
 pub returns-clause-compared : goal.returns-clause-compared
-returns-clause-compared c = λ tree path ids layers answer opens sound.
-    comparison-right c.a_lookup_in_a_right_graph_is_a_scan.ensures layers sound tree path ids answer opens
+returns-clause-compared c = λ tree path ids layers answer opens sound dated.
+    comparison-right c.a_lookup_in_a_right_graph_is_a_scan.ensures layers sound dated tree path ids answer opens

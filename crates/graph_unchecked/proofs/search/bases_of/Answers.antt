@@ -1,48 +1,54 @@
--- The layers that were shown are shown still, and the source tells of them.
-use Rattle.std.proofs.Common.{◌≡◌, Option, rules, sym, ap, subst, ◌∙◌}
+-- The search by dates goes over the same layers as the one before it.
+use Rattle.std.proofs.Common.{◌<◌, All, IsTrue, Option, ℕ, rules, sym, subst, ◌∙◌}
 use Rattle.graph_folder.specs.Tree.{Tree}
-use Rattle.commit_search.specs.Positions.{numbers_of}
-use Rattle.graph_parts.specs.PartFiles.{commits_in_all}
-use Rattle.graph_parts.specs.Shown.{Shows, files_of}
-use Rattle.graph_parts.proofs.GraphPartLemmas.{count-files, shows-total}
-use Rattle.graph_unchecked.specs.PartSearches.{AreBasesUnchecked}
-use Rattle.graph_unchecked.specs.PartSource.{KnownParts}
-use Rattle.graph_unchecked.proofs.FailureLemmas.{count-after, found-so, stopped-comparing}
-use Rattle.graph_unchecked.proofs.SearchLemmas.{bases-unchecked, reads-after, tells-after}
+use Rattle.graph_format.specs.declared.Position.{Position}
+use Rattle.graph_parts.specs.OfTree.{AreOfTree}
+use Rattle.graph_parts.specs.Shown.{Shows}
+use Rattle.graph_unchecked.specs.PartSource.{ReadsOn}
+use Rattle.graph_unchecked.proofs.SearchLemmas.{shows-after}
+use Rattle.graph_unchecked.proofs.SourceLemmas.{same-count}
+use Rattle.graph_unchecked.proofs.TrustedLemmas.{reads-then}
 use Rattle.graph_unchecked.proofs.search.bases_of.Goals as goal
 
-pub unless_failed-requires : goal.unless_failed-requires
-unless_failed-requires g c = stopped-comparing c.compare-compared.result c.compare-compared.ensures.refused
+pub returns-in-Some-clause-compared : goal.returns-in-Some-clause-compared
+returns-in-Some-clause-compared g c = λ tree is layers shows graph.
+    rw c.in-Some.is at (c.in_ok-found.ensures.compared tree is layers shows graph)
 
-pub returns-clause-reads : goal.returns-clause-reads
-returns-clause-reads g c =
-    let new = c.compare-compared.new.commits in
-    reads-after (g.T.Folder.tree c.args.folder.now) (g.T.Folder.tree new.folder.now)
-    (ap (λ (k : KnownParts). k.tree) c.compare-compared.ensures.known)
-    c.args.parts.now new.parts.now _ new.right
-    (ap (λ (k : KnownParts). k.files) c.compare-compared.ensures.known)
-    new.of c.compare-compared.ensures.kept (search rules)
+pub bases_by_dates-requires-clause-of : goal.bases_by_dates-requires-clause-of
+bases_by_dates-requires-clause-of g c =
+    subst (λ (k : Option Tree). AreOfTree k c.bases_by_generations.new.parts) (sym c.bases_by_generations.ensures.tree)
+    (c.bases_by_generations.ensures.reads.of c.requires.of)
 
-pub returns-clause-compared : goal.returns-clause-compared
-returns-clause-compared g c = λ tree is layers shows graph.
-    let new = c.compare-compared.new.commits in
-    let old = c.args.parts.now in
-    let known = g.T.Folder.tree new.folder.now in
-    let same : known ≡ g.T.Folder.tree c.args.folder.now = ap (λ (k : KnownParts). k.tree) c.compare-compared.ensures.known in
-    let files : files_of new.parts.now ≡ files_of old = ap (λ (k : KnownParts). k.files) c.compare-compared.ensures.known in
-    let tells = tells-after known tree (same ∙ is) old new.parts.now layers files new.of
-    (subst (λ (k : Option Tree). Shows k old layers) (sym same) shows) graph in
-    found-so c.compare-compared.result c.unless_failed.result
-    (AreBasesUnchecked layers c.args.first.0 (numbers_of c.args.others.now)) c.unless_failed.ensures.answer
-    (bases-unchecked known new.parts.now layers tells
-    c.args.first.0 (numbers_of c.args.others.now) (commits_in_all (files_of old))
-    (count-files old.layers.items
-    ∙ shows-total (g.T.Folder.tree c.args.folder.now) old.layers.items layers shows c.requires.parts.each)
-    c.compare-compared.result c.compare-compared.ensures.within c.compare-compared.ensures.visits
-    c.compare-compared.ensures.common c.compare-compared.ensures.exact)
+pub bases_by_dates-requires-clause-dates : goal.bases_by_dates-requires-clause-dates
+bases_by_dates-requires-clause-dates g c = λ layers shows.
+    let yes : IsTrue c.has_dates-in-None-1.result = search rules in
+    c.has_dates-in-None-1.ensures yes (g.T.Folder.tree c.bases_by_generations.new.folder) layers shows
 
-pub returns-clause-failures : goal.returns-clause-failures
-returns-clause-failures g c =
-    count-after _ _ _ _ c.unless_failed.result
-    (ap (λ (k : KnownParts). k.failures) c.compare-compared.ensures.known ∙ c.failures-failures.ensures)
-    c.unless_failed.ensures.failures (search rules)
+pub bases_by_dates-requires-clause-first : goal.bases_by_dates-requires-clause-first
+bases_by_dates-requires-clause-first g c =
+    rw (same-count (g.T.Folder.tree c.args.folder.now) c.args.parts.now c.bases_by_generations.new.parts
+    c.bases_by_generations.ensures.reads) c.requires.first
+
+pub bases_by_dates-requires-clause-others : goal.bases_by_dates-requires-clause-others
+bases_by_dates-requires-clause-others g c =
+    subst (λ (n : ℕ). All (λ (other : Position). other.0 < n) c.args.others.now)
+    (sym (same-count (g.T.Folder.tree c.args.folder.now) c.args.parts.now c.bases_by_generations.new.parts
+    c.bases_by_generations.ensures.reads))
+    c.requires.others
+
+pub returns-in-None-clause-reads : goal.returns-in-None-clause-reads
+returns-in-None-clause-reads g c =
+    let known = g.T.Folder.tree c.args.folder.now in
+    let mid = c.bases_by_generations.new.parts in
+    let new = c.bases_by_dates.new.parts in
+    reads-then known c.args.parts.now mid new c.bases_by_generations.ensures.reads
+    (subst (λ (k : Option Tree). ReadsOn k mid new) c.bases_by_generations.ensures.tree c.bases_by_dates.ensures.reads)
+
+pub returns-in-None-clause-compared : goal.returns-in-None-clause-compared
+returns-in-None-clause-compared g c = λ tree is layers shows graph.
+    let mid = c.bases_by_generations.new.parts in
+    let same = c.bases_by_generations.ensures.tree in
+    let there = shows-after (g.T.Folder.tree c.args.folder.now) tree is c.args.parts.now mid layers
+    c.bases_by_generations.ensures.reads.same (c.bases_by_generations.ensures.reads.of c.requires.of) shows in
+    c.bases_by_dates.ensures.compared tree (same ∙ is) layers (subst (λ (k : Option Tree). Shows k mid layers) (sym same) there)
+    graph

@@ -28,8 +28,8 @@ pub invariant_of-self-in-OutOfMemory-1-clause-of : goal.invariant_of-self-in-Out
 invariant_of-self-in-OutOfMemory-1-clause-of g c = λ tree is.
     c.read_fields.ensures.reads.of c.args.self.now.of tree (sym c.read_fields.ensures.tree ∙ is)
 
-pub returns-else-self-2-clause-fields : goal.returns-else-self-2-clause-fields
-returns-else-self-2-clause-fields g c =
+pub returns-else-self-eq0-2-clause-fields : goal.returns-else-self-eq0-2-clause-fields
+returns-else-self-eq0-2-clause-fields g c =
     let files = files_of c.args.self.now.parts.now in
     fields-again (g.T.Folder.tree c.args.self.now.folder.now) _ c.read_fields.ensures.tree c.read_fields.new.parts
     (commits_in_all files) (IsWordOf files) (LiesInFile files) c.args.pos.0 c.read_fields.result c.read_fields.ensures.fields
