@@ -157,7 +157,7 @@ impl Gathered {
                 return Ok(());
             };
             let asked = self.held.len() + requests.num_waiting();
-            match ask_one(id, asked >= most, requests, writer) {
+            match ask_one(id, asked, most, requests, writer) {
                 Ok(()) => {}
                 Err(error) => return Err(error),
             }
@@ -204,8 +204,9 @@ impl Gathered {
             Ok(id) => id,
             Err(error) => return Err(error_of_request(error)),
         };
-        let Ok(commit) = CommitObject::parse(newer.kind, requests.contents()) else {
-            return Err(CompleteError::Unreadable(id));
+        let commit = match CommitObject::parse(newer.kind, requests.contents()) {
+            Ok(commit) => commit,
+            Err(_) => return Err(CompleteError::Unreadable(id)),
         };
         match self.want_parents(newer, requests, commit.parents()) {
             Ok(()) => {}
@@ -218,26 +219,28 @@ impl Gathered {
     }
 }
 
-/// Asks for a commit, unless it was asked for. Where the requests are full, that is refused.
+/// Asks for a commit, unless it was asked for. Where as many were asked for as may be, that is
+/// refused.
 fn ask_one<W: Write, E>(
     id: ObjectId,
-    is_full: bool,
+    count: usize,
+    most: usize,
     requests: &mut Requests,
     writer: &mut W,
 ) -> Result<(), CompleteError<E>>
     requires { length (waiting requests.old) < most_waiting }
     ensures requests { requests.new ≡ record requests.old { asked = requests.new.asked } }
-    ensures asked { MayAsk is_full requests.old.asked requests.new.asked id }
+    ensures asked { MayAsk count most requests.old.asked requests.new.asked id }
     ensures done { OnOk result (Contains requests.new.asked id) }
     ensures written { OnOk result ((start : Option (List ℕ))
         → Appends start (W.contents writer.old) (request_lines requests.old.asked)
         → Appends start (W.contents writer.new) (request_lines requests.new.asked)) }
-    ensures refused { IfErr result (IsAskOneRefusal is_full) }
+    ensures refused { IfErr result (IsAskOneRefusal count most) }
 {
     if let Some(_) = requests.number_of(&id) {
         return Ok(());
     }
-    if is_full {
+    if count >= most {
         return Err(CompleteError::Full);
     }
     match requests.ask(id, writer) {

@@ -1,15 +1,14 @@
-use Rattle.std.proofs.Common.{◌≡◌, ◌≤◌, ◌-◌, ◌++◌, [], length}
+use Rattle.std.proofs.Common.{◌≡◌, ◌≤◌, ◌-◌, length}
 use Rattle.std.specs.Io.KnownBytes.{Appends, Consumes, prepend_known}
 use Rattle.commit_search.specs.Source.{Told}
-use Rattle.object_requests.specs.Asked.{waiting}
 use Rattle.object_stream.specs.declared.object_type.ObjectType.TheVariants.{Commit}
 use Rattle.commit_requests.specs.Gathering.{IsGathering}
 use Rattle.commit_requests.specs.Requested.{commit_entries, request_lines}
 use Rattle.commit_requests.proofs.completing.gather.Given as goal
 
 -- what was read is what was asked for first, and all that is lacking beside was asked for or is wanted
-abbrev pub invariant-loop-alloc : goal.invariant-loop-alloc
-invariant-loop-alloc g l =
+abbrev pub invariant-asking : goal.invariant-asking
+invariant-asking g l =
     let says = g.S.CommitSource.says in
     let kind = l.fn.newer.kind in
     record {
@@ -21,14 +20,14 @@ invariant-loop-alloc g l =
       same_type : l.requests.type ≡ Commit;
       same_kind : l.requests.kind ≡ kind;
       taken : l.requests.taken ≡ length l.gathered.held;
+      within : l.requests.taken ≤ length l.requests.asked;
       few : length l.requests.asked ≤ l.most;
       gathering : IsGathering kind (g.S.Base.finds (g.S.Base.facts l.fn.newer.base)) l.fn.newer.commits l.ids l.requests.asked
           l.gathered.held l.gathered.wanted.items;
-      all : length (waiting l.requests) ≡ 0 → l.gathered.wanted.items ≡ [];
       written : Appends (g.W.Write.contents l.fn.writer) (g.W.Write.contents l.writer) (request_lines l.requests.asked);
       read : Consumes (prepend_known l.fn.requests.ahead (g.R.Read.remaining l.fn.reader))
           (prepend_known l.requests.ahead (g.R.Read.remaining l.reader)) (commit_entries kind l.gathered.held);
     }
 
-abbrev pub decreases-loop-alloc : goal.decreases-loop-alloc
-decreases-loop-alloc g l = l.most - l.requests.taken
+abbrev pub decreases-asking : goal.decreases-asking
+decreases-asking g l = l.most - l.requests.taken

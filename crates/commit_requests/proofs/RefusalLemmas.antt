@@ -52,6 +52,19 @@ module _ {E : Type 0} (kind : Kind) (may_fail : E → Type 0) (top : CommitsOnTo
     want_refused (refusal.Lost id) r = r
     want_refused (refusal.Source error) r = r
 
+    pub want_taken : (number : ℕ) (error : CompleteError E) → IsWantRefusal may_fail error
+        → IsTakeRefusal kind may_fail asked number known error
+    want_taken number (refusal.Unknown n) r = r
+    want_taken number (refusal.Entry id error) r = absurd r
+    want_taken number (refusal.Unreadable id) r = absurd r
+    want_taken number (refusal.Cycle id) r = r
+    want_taken number refusal.Full r = r
+    want_taken number refusal.OutOfMemory r = tt
+    want_taken number refusal.Device r = tt
+    want_taken number refusal.WriteFailed r = tt
+    want_taken number (refusal.Lost id) r = r
+    want_taken number (refusal.Source error) r = r
+
     pub ask_refused : (most : ℕ) (error : CompleteError E) → most ≡ 0x70000000 - end_of_top top → IsAskRefusal most asked error
         → IsGatherRefusal kind may_fail top asked known error
     ask_refused most (refusal.Unknown number) is r = r

@@ -1,17 +1,20 @@
 -- How what was asked for, read and wanted grows.
 use Rattle.std.proofs.Common.{◌≡◌, ◌⊎◌, ℕ, ◌+◌, ◌<◌, ◌≤◌, List, [], ◌∷◌, ◌++◌, length, map, take, slice_get}
-use Rattle.std.proofs.Common.{Bool, false, All, Contains, Option, Some, None, refl, sym, ap, ◌∙◌, subst, inl, inr, ⊎_elim, arith}
-use Rattle.std.proofs.lemmas.List.{take_all, length-append}
+use Rattle.std.proofs.Common.{All, Contains, Option, Some, None, refl, sym, ap, ◌∙◌, subst, inl, inr, ⊎_elim, arith}
+use Rattle.std.proofs.lemmas.List.{take_all, length-append, length-drop}
 use Rattle.std.proofs.lemmas.List.Elements.{All-append, All-contains, All-nil, All-push, All-weaker, All-cons}
 use Rattle.std.proofs.lemmas.List.Elements.{Contains-append_cases, Contains-append_left, Contains-append_right, Contains-push}
 use Rattle.std.proofs.lemmas.List.Elements.{All-contains_itself, All-tail, Contains-push_cases}
 use Rattle.gix_hash_core.specs.declared.kind.Kind.{Kind}
 use Rattle.commit_objects.specs.CommitContents.{Said, Says}
 use Rattle.commit_objects.specs.Object.{object_id_of}
-use Rattle.object_requests.specs.Asked.{AreDistinct}
+use Rattle.object_requests.specs.Asked.{AreDistinct, Asked, waiting}
 use Rattle.newer_commits.specs.CommitsOnTop.{CommitsOnTop}
 use Rattle.newer_commits.specs.Finding.{Finds}
 use Rattle.commit_requests.specs.Requested.{AreAskedFor, IsNeeded}
+use Rattle.commit_requests.specs.Gathering.{IsAskOneRefusal, IsAskRefusal}
+use Rattle.commit_requests.specs.declared.error.CompleteError.{CompleteError}
+use Rattle.commit_requests.specs.declared.error.CompleteError.TheVariants as refusal
 use Rattle.commit_requests.specs.Gathering.{AreClosed, AsksMore, IsGathering, IsSeenTo, IsThere, IsThereOrAsked, MayAsk}
 use Rattle.commit_requests.specs.Gathering.{ReadsCommit, StillWants, WantsMore}
 use Rattle.graph_objects.specs.CommitWalks.{NamesParent}
@@ -129,6 +132,23 @@ module _ (base : List ℕ → Option ℕ → Type 0) (top : CommitsOnTop) where
       question = wants.seen;
     }
 
+    -- the same, where all begins with nothing
+    pub begins : (asked held before wanted : List (List ℕ)) → asked ≡ [] → held ≡ [] → before ≡ []
+        → WantsMore base top asked before wanted ids → IsGathering kind base top ids asked held wanted
+    begins asked held before wanted none empty fresh wants =
+        subst (λ (xs : List (List ℕ)). IsGathering kind base top ids xs held wanted) (sym none)
+        (subst (λ (ys : List (List ℕ)). IsGathering kind base top ids [] ys wanted) (sym empty)
+        (gathering_begins wanted
+        (subst (λ (xs : List (List ℕ)). WantsMore base top xs [] wanted ids) none
+        (subst (λ (ys : List (List ℕ)). WantsMore base top asked ys wanted ids) fresh wants))))
+
+    -- nothing was asked for
+    pub asked_none : (asked : List (List ℕ)) → asked ≡ [] → AreDistinct asked
+        → (read : List (List ℕ)) × AreAskedFor kind base top ids asked read
+    asked_none asked none distinct =
+        subst (λ (xs : List (List ℕ)). (read : List (List ℕ)) × AreAskedFor kind base top ids xs read) (sym none)
+        ([], record { own = refl; distinct = subst AreDistinct none distinct; lacking = All-nil _; needed = All-nil _ })
+
     module _ (asked read wanted : List (List ℕ)) (now : IsGathering kind base top ids asked read wanted) where
       -- some of those that are wanted were asked for
       module _ (after : List (List ℕ)) (asks : AsksMore asked after wanted) where
@@ -179,6 +199,12 @@ module _ (base : List ℕ → Option ℕ → Type 0) (top : CommitsOnTop) where
               seen_still after wanted wants id still
               (subst (λ (xs : List (List ℕ)). IsSeenTo base top xs wanted id) (sym asks.added)
               (seen_asked asked asks.more wanted id s))
+
+      -- nothing more was asked for
+      pub still_asked_for : (after : List (List ℕ)) → after ≡ asked → AreDistinct after
+          → (all : List (List ℕ)) × AreAskedFor kind base top ids after all
+      still_asked_for after same distinct =
+          (read, are_asked_for after (record { more = []; added = same ∙ sym (append_nil asked); among = All-nil _ }) distinct)
 
       -- one more commit was read
       pub gathering_reads : (new wants : List (List ℕ)) → ReadsCommit kind base top asked read new wanted wants
@@ -249,17 +275,25 @@ module _ (base : List ℕ → Option ℕ → Type 0) (top : CommitsOnTop) where
       pub question_ends : All (IsThereOrAsked base top asked) ids
       question_ends = All-weaker (IsSeenTo base top asked []) (IsThereOrAsked base top asked) there_or_asked ids now.question
 
+-- where all but none were taken, as many are held as were asked for
+pub all_taken : (r : Asked) (held : List (List ℕ)) → r.taken ≡ length held → length (waiting r) ≡ 0 → length r.asked ≤ length held
+all_taken r held taken none = omega (arith, taken, none, length-drop r.taken r.asked)
+
+-- where some wait, some were not taken
+pub some_waits : (r : Asked) → 0 < length (waiting r) → r.taken < length r.asked
+some_waits r some = omega (arith, some, length-drop r.taken r.asked)
+
 -- nothing was asked for
 pub asks_none : (asked wanted : List (List ℕ)) → AsksMore asked asked wanted
 asks_none asked wanted = record { more = []; added = sym (append_nil asked); among = All-nil _ }
 
 -- one that was wanted was asked for, or nothing was
-pub asks_step : (start asked after wanted : List (List ℕ)) (id : List ℕ) (is_full : Bool) → AsksMore start asked wanted
-    → Contains wanted id → MayAsk is_full asked after id → AsksMore start after wanted
-asks_step start asked after wanted id is_full asks contained may =
+pub asks_step : (start asked after wanted : List (List ℕ)) (id : List ℕ) (count most : ℕ) → AsksMore start asked wanted
+    → Contains wanted id → MayAsk count most asked after id → AsksMore start after wanted
+asks_step start asked after wanted id count most asks contained may =
     ⊎_elim
     (λ (same : after ≡ asked). subst (λ (xs : List (List ℕ)). AsksMore start xs wanted) (sym same) asks)
-    (λ (one : (after ≡ asked ++ id ∷ []) × (is_full ≡ false)).
+    (λ (one : (after ≡ asked ++ id ∷ []) × (count < most)).
     record {
       more = asks.more ++ id ∷ [];
       added = one.0 ∙ ap (λ xs. xs ++ id ∷ []) asks.added ∙ append_again start asks.more (id ∷ []);
@@ -267,21 +301,21 @@ asks_step start asked after wanted id is_full asks contained may =
     })
     may
 
-asked_still : (asked after : List (List ℕ)) (id q : List ℕ) (is_full : Bool) → MayAsk is_full asked after id → Contains asked q
+asked_still : (asked after : List (List ℕ)) (id q : List ℕ) (count most : ℕ) → MayAsk count most asked after id → Contains asked q
     → Contains after q
-asked_still asked after id q is_full may contained =
+asked_still asked after id q count most may contained =
     ⊎_elim
     (λ (same : after ≡ asked). subst (λ (xs : List (List ℕ)). Contains xs q) (sym same) contained)
-    (λ (one : (after ≡ asked ++ id ∷ []) × (is_full ≡ false)).
+    (λ (one : (after ≡ asked ++ id ∷ []) × (count < most)).
     subst (λ (xs : List (List ℕ)). Contains xs q) (sym one.0) (Contains-append_left asked (id ∷ []) q contained))
     may
 
-pub still_step : (start asked after wanted rest : List (List ℕ)) (id : List ℕ) (is_full : Bool) → StillWants asked start wanted
-    → wanted ≡ id ∷ rest → MayAsk is_full asked after id → Contains after id → StillWants after start rest
-still_step start asked after wanted rest id is_full still first may done = record {
+pub still_step : (start asked after wanted rest : List (List ℕ)) (id : List ℕ) (count most : ℕ) → StillWants asked start wanted
+    → wanted ≡ id ∷ rest → MayAsk count most asked after id → Contains after id → StillWants after start rest
+still_step start asked after wanted rest id count most still first may done = record {
   each = All-weaker (λ q. Contains asked q ⊎ Contains wanted q) (λ q. Contains after q ⊎ Contains rest q)
       (λ q h. ⊎_elim
-      (λ (a : Contains asked q). inl (asked_still asked after id q is_full may a))
+      (λ (a : Contains asked q). inl (asked_still asked after id q count most may a))
       (λ (w : Contains wanted q). of_wanted q (subst (λ (xs : List (List ℕ)). Contains xs q) first w))
       h)
       start still.each;
@@ -303,3 +337,41 @@ still_all asked wanted = record {
   each = All-weaker (Contains wanted) (λ q. Contains asked q ⊎ Contains wanted q) (λ q c. inr c) wanted (All-contains_itself wanted);
   none = All-contains_itself wanted;
 }
+
+-- so many were asked for in all, where the entries of all but those that wait were taken
+pub count_all : (r : Asked) (held waits : ℕ) → r.taken ≡ held → r.taken ≤ length r.asked → waits ≡ length (waiting r)
+    → held + waits ≡ length r.asked
+count_all r held waits taken within count = omega (arith, taken, within, count, length-drop r.taken r.asked)
+
+-- no more were asked for than may be
+pub few_step : (asked after : List (List ℕ)) (id : List ℕ) (count most : ℕ) → MayAsk count most asked after id
+    → count ≡ length asked → length asked ≤ most → length after ≤ most
+few_step asked after id count most may is few =
+    ⊎_elim
+    (λ (same : after ≡ asked). subst (λ (xs : List (List ℕ)). length xs ≤ most) (sym same) few)
+    (λ (one : (after ≡ asked ++ id ∷ []) × (count < most)).
+    omega (arith, ap length one.0, length-append asked (id ∷ []), one.1, is))
+    may
+
+asked_grows : (asked after : List (List ℕ)) (id : List ℕ) (count most : ℕ) → MayAsk count most asked after id
+    → length asked ≤ length after
+asked_grows asked after id count most may =
+    ⊎_elim
+    (λ (same : after ≡ asked). omega (arith, ap length same))
+    (λ (one : (after ≡ asked ++ id ∷ []) × (count < most)).
+    omega (arith, ap length one.0, length-append asked (id ∷ [])))
+    may
+
+-- why one more was not asked for is why no more are
+pub one_refused : {E : Type 0} (asked after : List (List ℕ)) (id : List ℕ) (count most : ℕ) (error : CompleteError E)
+    → MayAsk count most asked after id → count ≡ length asked → IsAskOneRefusal count most error → IsAskRefusal most after error
+one_refused asked after id count most (refusal.Unknown number) may is r = r
+one_refused asked after id count most (refusal.Entry other error) may is r = r
+one_refused asked after id count most (refusal.Unreadable other) may is r = r
+one_refused asked after id count most (refusal.Cycle other) may is r = r
+one_refused asked after id count most refusal.Full may is r = omega (arith, r, is, asked_grows asked after id count most may)
+one_refused asked after id count most refusal.OutOfMemory may is r = tt
+one_refused asked after id count most refusal.Device may is r = r
+one_refused asked after id count most refusal.WriteFailed may is r = tt
+one_refused asked after id count most (refusal.Lost other) may is r = r
+one_refused asked after id count most (refusal.Source error) may is r = r

@@ -5,6 +5,8 @@ use Rattle.std.proofs.lemmas.Grind.{flat_map-append}
 use Rattle.gix_hash_core.specs.declared.kind.Kind.{Kind}
 use Rattle.commit_objects.specs.Object.{object_id_of}
 use Rattle.object_stream.specs.BatchEntry.{object_entry}
+use Rattle.object_stream.specs.TypedObject.{typed_id}
+use Rattle.object_stream.specs.declared.object_type.ObjectType.{ObjectType}
 use Rattle.object_stream.specs.declared.object_type.ObjectType.TheVariants.{Commit}
 use Rattle.object_requests.specs.Asked.{request_line}
 use Rattle.commit_requests.specs.Requested.{commit_entries, request_lines}
@@ -55,3 +57,32 @@ pub entries_more : (kind : Kind) (read : List (List ℕ)) (bytes : List ℕ)
 entries_more kind read bytes =
     flat_map-append (λ (b : List ℕ). object_entry Commit (object_id_of kind b) b) read (bytes ∷ [])
     ∙ ap (λ xs. commit_entries kind read ++ xs) (append_nil (object_entry Commit (object_id_of kind bytes) bytes))
+
+-- the lines of none are none
+pub lines_none : (known : Option (List ℕ)) (asked : List (List ℕ)) → asked ≡ [] → Appends known known (request_lines asked)
+lines_none known asked none =
+    subst (λ (xs : List (List ℕ)). Appends known known (request_lines xs)) (sym none) (appends_none known)
+
+-- the entries of none are none
+pub entries_none : (kind : Kind) (known : Option (List ℕ)) (read : List (List ℕ)) → read ≡ []
+    → Consumes known known (commit_entries kind read)
+entries_none kind known read none =
+    subst (λ (xs : List (List ℕ)). Consumes known known (commit_entries kind xs)) (sym none) (consumes_none known)
+
+-- one more entry was read
+pub entry_next : (kind : Kind) (type : ObjectType) (start before after : Option (List ℕ)) (read new : List (List ℕ))
+    (id bytes : List ℕ) → type ≡ Commit → id ≡ object_id_of kind bytes → new ≡ read ++ bytes ∷ []
+    → Consumes start before (commit_entries kind read) → Consumes before after (object_entry type id bytes)
+    → Consumes start after (commit_entries kind new)
+entry_next kind type start before after read new id bytes is own added one other =
+    subst (λ (xs : List (List ℕ)). Consumes start after (commit_entries kind xs)) (sym added)
+    (subst (Consumes start after) (sym (entries_more kind read bytes))
+    (consumes_more start before after (commit_entries kind read) (object_entry Commit (object_id_of kind bytes) bytes) one
+    (subst (λ (t : ObjectType). Consumes before after (object_entry t (object_id_of kind bytes) bytes)) is
+    (subst (λ (x : List ℕ). Consumes before after (object_entry type x bytes)) own other))))
+
+-- the id of an object that is a commit is that of the commit
+pub commit_id : (kind other : Kind) (type : ObjectType) (id bytes : List ℕ) → type ≡ Commit → other ≡ kind
+    → id ≡ typed_id other type bytes → id ≡ object_id_of kind bytes
+commit_id kind other type id bytes is same own =
+    own ∙ ap (λ (t : ObjectType). typed_id other t bytes) is ∙ ap (λ (k : Kind). object_id_of k bytes) same

@@ -237,3 +237,15 @@ module _ (kind : Kind) (base : List ℕ → Option ℕ → Type 0) where
       (contains_from_get (map (object_id_of kind) read) at.0 (object_id_of kind bytes)
       (get_mapped (object_id_of kind) read at.0 bytes at.1)))
       contents all
+
+  -- each id of a question is there, once all that were asked for are
+  pub question_there : (old : CommitsOnTop) (contents : List (List ℕ)) (new : CommitsOnTop) (asked ids : List (List ℕ))
+      → AddsInTurn kind base old contents new → All (IsThereOrAsked base old asked) ids → AreThere base new asked
+      → AreThere base new ids
+  question_there old contents new asked ids turn seen all =
+      All-weaker (IsThereOrAsked base old asked) (IsThere base new)
+      (λ id s. ⊎_elim
+      (λ (there : IsThere base old id). turn_kept old contents new turn id there)
+      (λ (a : Contains asked id). All-contains (IsThere base new) asked id all a)
+      s)
+      ids seen

@@ -1,8 +1,17 @@
 -- The numbers of parents, one after another.
 use Rattle.std.proofs.Common.{◌≡◌, ◌⊎◌, ℕ, ◌+◌, ◌<◌, ◌≤◌, List, [], ◌∷◌, ◌++◌, Some, slice_get}
-use Rattle.std.proofs.Common.{All, Contains, refl, sym, subst, ⊎_elim}
+use Rattle.std.proofs.Common.{All, Contains, refl, sym, ap, subst, ⊎_elim, arith, length, map, take}
 use Rattle.std.proofs.lemmas.List.Elements.{All-nil, All-push, All-weaker, Contains-append_left, Contains-push}
-use Rattle.commit_requests.specs.Placing.{AddsNumber, AreNumbersIn}
+use Rattle.std.proofs.lemmas.List.Elements.{Contains-push_cases}
+use Rattle.std.proofs.lemmas.List.{length-map}
+use Rattle.std.proofs.lemmas.Option.{slice_get-get_or, slice_get_within}
+use Rattle.std.specs.Prelude.{slice_index_or}
+use Rattle.gix_hash_core.specs.declared.kind.Kind.{Kind}
+use Rattle.commit_objects.specs.Object.{object_id_of}
+use Rattle.graph_levels.specs.ParentLists.{commit_count, parent_list}
+use Rattle.graph_levels.specs.declared.lists.ParentLists.{ParentLists}
+use Rattle.commit_requests.specs.Placing.{AddsNumber, AreListsOf, AreNumbersIn}
+use Rattle.commit_requests.proofs.ListSteps.{take_next}
 
 pub numbers_none : (asked : List (List ℕ)) → AreNumbersIn asked [] []
 numbers_none asked = record { each = All-nil _; every = All-nil _ }
@@ -42,3 +51,32 @@ module _ (asked seen : List (List ℕ)) (numbers : List ℕ) (are : AreNumbersIn
       (λ (none : (¬ Contains asked id) × (new ≡ numbers)).
       subst (AreNumbersIn asked (seen ++ id ∷ [])) (sym none.1) (with_none none.0))
       adds
+
+-- the numbers of parents are numbers of commits that were read
+pub lists_within : (kind : Kind) (asked read : List (List ℕ)) (lists : ParentLists) → asked ≡ map (object_id_of kind) read
+    → AreListsOf kind asked read lists → (i : ℕ) → i < commit_count lists
+    → All (λ q. q < commit_count lists) (parent_list lists i)
+lists_within kind asked read lists own listed i lt =
+    let bytes : List ℕ = slice_index_or read i [] in
+    let at : slice_get read i ≡ Some bytes = slice_get-get_or read i [] (omega (arith, lt, listed.as_many)) in
+    let has = listed.each i bytes at in
+    All-weaker (λ (q : ℕ). (id : List ℕ) × (slice_get asked q ≡ Some id) × Contains has.0.parents id)
+    (λ (q : ℕ). q < commit_count lists)
+    (λ q h. omega (
+      arith,
+      slice_get_within asked q h.0 h.1,
+      ap length own,
+      length-map read (object_id_of kind),
+      listed.as_many,
+    ))
+    (parent_list lists i) has.2.each
+
+-- an id that stands at a place is not among the first
+pub not_yet : (ids : List (List ℕ)) (number : ℕ) (id other : List ℕ) → slice_get ids number ≡ Some other → ¬ (other ≡ id)
+    → ¬ Contains (take number ids) id → ¬ Contains (take (number + 1) ids) id
+not_yet ids number id other at apart none contained =
+    ⊎_elim
+    (λ (early : Contains (take number ids) id). none early)
+    (λ (same : other ≡ id). apart same)
+    (Contains-push_cases (take number ids) other id
+    (subst (λ (xs : List (List ℕ)). Contains xs id) (take_next ids number other at) contained))

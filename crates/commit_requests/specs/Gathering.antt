@@ -1,6 +1,5 @@
 -- What was read of the commits that were asked for, and what is still wanted. For private contracts alone.
-use Rattle.std.specs.Prelude.{◌≡◌, ◌⊎◌, ◌+◌, ◌≤◌, ℕ, List, ◌∷◌, ◌++◌, [], All, Contains, Option, Some, None, length, map, slice_get, take}
-use Rattle.std.specs.Prelude.{Bool, false, true}
+use Rattle.std.specs.Prelude.{◌≡◌, ◌⊎◌, ◌+◌, ◌<◌, ◌≤◌, ℕ, List, ◌∷◌, ◌++◌, [], All, Contains, Option, Some, None, length, map, slice_get, take}
 use Rattle.std.specs.Prelude.{IfSome, ⊤}
 use Rattle.gix_hash_core.specs.declared.kind.Kind.{Kind}
 use Rattle.commit_objects.specs.CommitContents.{Said, Says}
@@ -55,22 +54,22 @@ pub record AsksMore (old new wanted : List (List ℕ)) : Type 0 where
   pub added : new ≡ old ++ more
   pub among : All (Contains wanted) more
 
--- one commit was asked for, where there is room for one more; or nothing was
-abbrev pub MayAsk : Bool → List (List ℕ) → List (List ℕ) → List ℕ → Type 0
-MayAsk is_full old new id = (new ≡ old) ⊎ ((new ≡ old ++ id ∷ []) × (is_full ≡ false))
+-- one commit was asked for, where so many were and there is room for one more; or nothing was
+abbrev pub MayAsk : ℕ → ℕ → List (List ℕ) → List (List ℕ) → List ℕ → Type 0
+MayAsk count most old new id = (new ≡ old) ⊎ ((new ≡ old ++ id ∷ []) × (count < most))
 
 -- why one commit was not asked for
-abbrev pub IsAskOneRefusal : {E : Type 0} → Bool → CompleteError E → Type 0
-IsAskOneRefusal is_full (refusal.Unknown number) = ⊥
-IsAskOneRefusal is_full (refusal.Entry id error) = ⊥
-IsAskOneRefusal is_full (refusal.Unreadable id) = ⊥
-IsAskOneRefusal is_full (refusal.Cycle id) = ⊥
-IsAskOneRefusal is_full refusal.Full = is_full ≡ true
-IsAskOneRefusal is_full refusal.OutOfMemory = ⊤
-IsAskOneRefusal is_full refusal.Device = ⊥
-IsAskOneRefusal is_full refusal.WriteFailed = ⊤
-IsAskOneRefusal is_full (refusal.Lost id) = ⊥
-IsAskOneRefusal is_full (refusal.Source error) = ⊥
+abbrev pub IsAskOneRefusal : {E : Type 0} → ℕ → ℕ → CompleteError E → Type 0
+IsAskOneRefusal count most (refusal.Unknown number) = ⊥
+IsAskOneRefusal count most (refusal.Entry id error) = ⊥
+IsAskOneRefusal count most (refusal.Unreadable id) = ⊥
+IsAskOneRefusal count most (refusal.Cycle id) = ⊥
+IsAskOneRefusal count most refusal.Full = most ≤ count
+IsAskOneRefusal count most refusal.OutOfMemory = ⊤
+IsAskOneRefusal count most refusal.Device = ⊥
+IsAskOneRefusal count most refusal.WriteFailed = ⊤
+IsAskOneRefusal count most (refusal.Lost id) = ⊥
+IsAskOneRefusal count most (refusal.Source error) = ⊥
 
 -- Of those that were wanted, each was asked for or is wanted still, and no others are.
 pub record StillWants (asked old new : List (List ℕ)) : Type 0 where

@@ -1,13 +1,14 @@
 //! Commits that are asked for until none is lacking.
 
-ghost use Rattle.std.specs.Prelude.{◌≡◌, ◌≤◌, ◌<◌, [], All, Contains, IfErr, IfOk, IfSome, List, OnOk};
-ghost use Rattle.std.specs.Prelude.{MatchOption, Option, Some, length, map, slice_get, take, ℕ};
+ghost use Rattle.std.specs.Prelude.{◌≡◌, ◌↔◌, ◌-◌, ◌≤◌, ◌<◌, [], All, Contains, IfErr, IfOk, IfSome, List, OnOk};
+ghost use Rattle.std.specs.Prelude.{IsTrue, MatchOption, Option, Some, length, map, slice_get, take, ℕ};
 ghost use Rattle.std.specs.Io.KnownBytes.{Appends, Consumes, prepend_known};
 ghost use Rattle.commit_objects.specs.Object.{object_id_of};
 ghost use Rattle.commit_search.specs.Source.{Told};
 ghost use Rattle.object_requests.specs.Asked.{AreDistinct};
 ghost use Rattle.object_stream.specs.declared.object_type.ObjectType.TheVariants.{Commit};
 ghost use Rattle.newer_commits.specs.Adding.{AreThere};
+ghost use Rattle.newer_commits.specs.CommitsOnTop.{end_of_top};
 ghost use Rattle.commit_requests.specs.Completion.{AddsInTurn, HaveIdsAmong, IsCompleteRefusal};
 ghost use Rattle.commit_requests.specs.Gathering.{AreClosed, IsGatherRefusal, IsThereOrAsked};
 ghost use Rattle.commit_requests.specs.Gathering.{IsToldAs};
@@ -72,12 +73,16 @@ pub fn complete<S: Base, R: Read, W: Write>(
         newer.old.commits newer.new.commits ids.now requests.new.asked
         (prepend_known requests.old.ahead (R.remaining reader.old))) }
 {
-    let gathered = gather(alloc, newer, requests, ids, reader, writer);
-    // By its contract no id was asked for twice.
-    let _waiting = requests.num_waiting();
-    match gathered {
-        Ok(held) => add_all(alloc, newer, requests, &held),
-        Err(error) => Err(told_of(ids, error)),
+    // By the contract of `num_waiting` no id was asked for twice.
+    match gather(alloc, newer, requests, ids, reader, writer) {
+        Ok(held) => {
+            let _none = requests.num_waiting();
+            add_all(alloc, newer, requests, &held)
+        }
+        Err(error) => {
+            let _some = requests.num_waiting();
+            Err(told_of(ids, error))
+        }
     }
 }
 
@@ -117,27 +122,33 @@ fn gather<S: Base, R: Read, W: Write>(
         (S.may_fail (S.known newer.old.base)) newer.old.commits requests.new.asked
         (prepend_known requests.old.ahead (R.remaining reader.old))) }
 {
-    let most = (NO_PARENT as usize).saturating_sub(newer.num_commits() as usize);
+    let most = most_asked(newer);
     let mut gathered = Gathered::new(alloc);
     match gathered.want_each(newer, requests, ids) {
         Ok(()) => {}
         Err(error) => return Err(error),
     }
-    match gathered.ask_ahead(most, requests, writer) {
-        Ok(()) => {}
-        Err(error) => return Err(error),
-    }
-    while requests.num_waiting() > 0 {
-        match gathered.take(alloc, newer, requests, reader, writer) {
-            Ok(()) => {}
-            Err(error) => return Err(error),
-        }
+    'asking: loop {
         match gathered.ask_ahead(most, requests, writer) {
             Ok(()) => {}
             Err(error) => return Err(error),
         }
+        let waiting = requests.num_waiting();
+        if waiting == 0 {
+            return Ok(gathered.held);
+        }
+        match gathered.take(alloc, newer, requests, reader, writer) {
+            Ok(()) => {}
+            Err(error) => return Err(error),
+        }
     }
-    Ok(gathered.held)
+}
+
+/// How many commits may be asked for: as many as have positions beside those that are there.
+fn most_asked<S: Base>(newer: &Newer<S>) -> usize
+    ensures { result ≡ 0x70000000 - end_of_top newer.now.commits }
+{
+    (NO_PARENT as usize).saturating_sub(newer.num_commits() as usize)
 }
 
 /// Adds all commits that were read, each after its parents.
@@ -164,8 +175,9 @@ fn add_all<S: Base>(
         (S.may_fail (S.known newer.old.base)) newer.old.commits newer.new.commits ids
         requests.now.asked known error) }
 {
-    let Ok(lists) = parent_lists(alloc, newer.kind, requests, held) else {
-        return Err(CompleteError::OutOfMemory);
+    let lists = match parent_lists(alloc, newer.kind, requests, held) {
+        Ok(lists) => lists,
+        Err(_) => return Err(CompleteError::OutOfMemory),
     };
     match order_of(alloc, &lists) {
         Ok(places) => add_each(alloc, newer, held, &places),
@@ -179,7 +191,7 @@ fn add_all<S: Base>(
 
 /// The error of a question with these ids: an object that is missing is told by the number of its
 /// id, where it is one of these.
-fn told_of<E>(ids: &[ObjectId], error: CompleteError<E>) -> CompleteError<E>
+fn told_of<E: Drop>(ids: &[ObjectId], error: CompleteError<E>) -> CompleteError<E>
     ensures { IsToldAs ids.now error result }
 {
     let number = match missing_of(&error) {
@@ -208,5 +220,19 @@ fn number_of(ids: &[ObjectId], id: ObjectId) -> Option<usize>
     ensures { MatchOption result (¬ Contains ids.now id) (λ number.
         (slice_get ids.now number ≡ Some id) × (¬ Contains (take number ids.now) id)) }
 {
-    ids.iter().position(|other| *other == id)
+    for number in 0..ids.len() {
+        let other = ids[number];
+        let same = is_same(other, id);
+        if same {
+            return Some(number);
+        }
+    }
+    None
+}
+
+/// Whether they are the same id.
+fn is_same(one: ObjectId, other: ObjectId) -> bool
+    ensures { IsTrue result ↔ (one ≡ other) }
+{
+    one == other
 }
