@@ -14,11 +14,13 @@ use Rattle.graph_levels.specs.declared.lists.ParentLists.{ParentLists}
 use Rattle.newer_commits.specs.Adding.{AddsCommit}
 use Rattle.newer_commits.specs.CommitsOnTop.{CommitsOnTop, NewerCommit, StandsOnTop, end_of_top, ids_on_top}
 use Rattle.newer_commits.specs.Finding.{Finds}
-use Rattle.newer_commits.specs.Adding.{AreThere}
+use Rattle.newer_commits.specs.Adding.{AreThere, IsAddRefusal}
+use Rattle.newer_commits.specs.declared.error.AddError.{AddError}
+use Rattle.newer_commits.specs.declared.error.AddError.TheVariants as add
 use Rattle.commit_requests.specs.Completion.{AddsInTurn, HaveIdsAmong}
 use Rattle.commit_requests.specs.Gathering.{AreClosed, IsThere, IsThereOrAsked}
 use Rattle.commit_requests.specs.Placing.{AddsOrHas, AreInOrder, AreListsOf, ComeAfterParents, HasNumbers, IsNumberThere}
-use Rattle.commit_requests.specs.Placing.{IsOneRefusal, IsTurnRefusal}
+use Rattle.commit_requests.specs.Placing.{IsLackingParent, IsOneRefusal, IsTurnRefusal}
 use Rattle.commit_requests.specs.declared.error.CompleteError.{CompleteError}
 use Rattle.commit_requests.specs.declared.error.CompleteError.TheVariants as refusal
 use Rattle.commit_requests.proofs.ListSteps.{contains_from_get, get_from_contains, get_from_mapped, get_mapped, take_next}
@@ -249,3 +251,41 @@ module _ (kind : Kind) (base : List ℕ → Option ℕ → Type 0) where
       (λ (a : Contains asked id). All-contains (IsThere base new) asked id all a)
       s)
       ids seen
+
+  -- Why a commit is not added, of which a parent is not there.
+  module _ {E : Type 0} (may_fail : E → Type 0) (top : CommitsOnTop) (contents : List ℕ) where
+    pub lacking_told : (error : AddError E) (id : List ℕ) → IsLackingParent error (Some id)
+        → IsAddRefusal kind base may_fail top contents error
+        → (said : Said) × Says kind contents said × Contains said.parents id × Finds base top id None
+    lacking_told add.Unreadable id told r = absurd (none-some id (sym told))
+    lacking_told (add.Known pos) id told r = absurd (none-some id (sym told))
+    lacking_told (add.Parent index other) id told r =
+        let same : other ≡ id = same_Some other id (sym told) in (
+          r.0,
+          r.1.says,
+          contains_from_get r.0.parents index id (r.3 ∙ ap (λ (x : List ℕ). Some x) same),
+          subst (λ (x : List ℕ). Finds base top x None) same r.4,
+        )
+    lacking_told add.Full id told r = absurd (none-some id (sym told))
+    lacking_told add.OutOfMemory id told r = absurd (none-some id (sym told))
+    lacking_told (add.Source error) id told r = absurd (none-some id (sym told))
+
+-- a parent that is not there is told
+pub lacking_refused : {E : Type 0} (kind : Kind) (base : List ℕ → Option ℕ → Type 0) (may_fail : E → Type 0) (top : CommitsOnTop)
+    (contents : List ℕ) (error : AddError E) (id : List ℕ) → IsLackingParent error (Some id)
+    → IsAddRefusal kind base may_fail top contents error
+    → (said : Said) × Says kind contents said × Contains said.parents id × Finds base top id None
+lacking_refused kind base may_fail top contents error id told r = lacking_told kind base may_fail top contents error id told r
+
+-- else it is readable, and no parent is lacking
+pub never_told : {E : Type 0} (kind : Kind) (base : List ℕ → Option ℕ → Type 0) (may_fail : E → Type 0) (top : CommitsOnTop)
+    (contents : List ℕ) (error : AddError E) → ((said : Said) × Says kind contents said) → IsLackingParent error None
+    → IsAddRefusal kind base may_fail top contents error
+    → (error ≡ add.Unreadable) ⊎ ((index : ℕ) × (id : List ℕ) × (error ≡ add.Parent index id)) → ⊥
+never_told kind base may_fail top contents error readable told r is =
+    ⊎_elim
+    (λ (unreadable : error ≡ add.Unreadable).
+    subst (IsAddRefusal kind base may_fail top contents) unreadable r readable.0 readable.1)
+    (λ (parent : (index : ℕ) × (id : List ℕ) × (error ≡ add.Parent index id)).
+    none-some parent.1 (subst (λ (e : AddError _). IsLackingParent e None) parent.2 told))
+    is

@@ -1,7 +1,7 @@
 //! Commits that are asked for until none is lacking.
 
-ghost use Rattle.std.specs.Prelude.{◌≡◌, ◌↔◌, ◌-◌, ◌≤◌, ◌<◌, [], All, Contains, IfErr, IfOk, IfSome, List, OnOk};
-ghost use Rattle.std.specs.Prelude.{IsTrue, MatchOption, Option, Some, length, map, slice_get, take, ℕ};
+ghost use Rattle.std.specs.Prelude.{◌≡◌, ◌≢◌, ◌-◌, ◌≤◌, ◌<◌, [], All, Contains, IfErr, IfOk, IfSome, List, OnOk};
+ghost use Rattle.std.specs.Prelude.{MatchOption, Option, Some, length, map, slice_get, take, ℕ};
 ghost use Rattle.std.specs.Io.KnownBytes.{Appends, Consumes, prepend_known};
 ghost use Rattle.commit_objects.specs.Object.{object_id_of};
 ghost use Rattle.commit_search.specs.Source.{Told};
@@ -194,13 +194,12 @@ fn add_all<S: Base>(
 fn told_of<E: Drop>(ids: &[ObjectId], error: CompleteError<E>) -> CompleteError<E>
     ensures { IsToldAs ids.now error result }
 {
-    let number = match missing_of(&error) {
-        Some(id) => number_of(ids, id),
-        None => None,
-    };
-    match number {
-        Some(number) => CompleteError::Unknown(number),
+    match missing_of(&error) {
         None => error,
+        Some(id) => match number_of(ids, id) {
+            Some(number) => CompleteError::Unknown(number),
+            None => error,
+        },
     }
 }
 
@@ -221,18 +220,9 @@ fn number_of(ids: &[ObjectId], id: ObjectId) -> Option<usize>
         (slice_get ids.now number ≡ Some id) × (¬ Contains (take number ids.now) id)) }
 {
     for number in 0..ids.len() {
-        let other = ids[number];
-        let same = is_same(other, id);
-        if same {
+        if ids[number] == id {
             return Some(number);
         }
     }
     None
-}
-
-/// Whether they are the same id.
-fn is_same(one: ObjectId, other: ObjectId) -> bool
-    ensures { IsTrue result ↔ (one ≡ other) }
-{
-    one == other
 }

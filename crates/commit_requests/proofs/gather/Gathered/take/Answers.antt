@@ -22,7 +22,7 @@ returns-in-Err-parse-clause-refused g c =
     let old = c.args.newer.now in
     let r : Asked = c.args.requests.now in
     let taken = c.in-Ok.ensures.taken in
-    let contents : List ℕ = c.take_next.new.requests.contents in (
+    let contents : List ℕ = c.take_next.new.self.contents in (
       taken.oldest,
       contents,
       commit_id old.kind r.kind r.type c.in-Ok.id contents c.requires.commits c.requires.kind taken.own,
@@ -43,7 +43,7 @@ returns-in-Ok-push-clause-read g c =
     let base = g.S.Base.finds (g.S.Base.facts old.base) in
     let r : Asked = c.args.requests.now in
     let taken = c.in-Ok.ensures.taken in
-    let contents : List ℕ = c.take_next.new.requests.contents in
+    let contents : List ℕ = c.take_next.new.self.contents in
     let before : List (List ℕ) = c.args.self.now.wanted.items in
     let after : List (List ℕ) = c.want_parents.new.self.wanted.items in
     let own : c.in-Ok.id ≡ object_id_of old.kind contents =
@@ -64,7 +64,7 @@ pub returns-in-Ok-push-clause-bytes : goal.returns-in-Ok-push-clause-bytes
 returns-in-Ok-push-clause-bytes g c =
     let old = c.args.newer.now in
     let r : Asked = c.args.requests.now in
-    let next : Asked = c.take_next.new.requests in
+    let next : Asked = c.take_next.new.self in
     let taken = c.in-Ok.ensures.taken in
     let own : c.in-Ok.id ≡ object_id_of old.kind next.contents =
     commit_id old.kind r.kind r.type c.in-Ok.id next.contents c.requires.commits c.requires.kind taken.own in
