@@ -96,11 +96,6 @@ returns-in-Ok-order_of-clause-refused g c =
     c.requires.closed.own refused)
     c.add_each.ensures.refused
 
-pub of-requires : goal.of-requires
-of-requires g c =
-    let cycle = rw c.in-Err-Cycle.field-0-is at c.in-Err-Cycle.ensures.cycle in
-    omega (arith, cycle.1, c.in-Ok.ensures.as_many)
-
 pub returns-in-Err-Cycle-clause-refused : goal.returns-in-Err-Cycle-clause-refused
 returns-in-Err-Cycle-clause-refused g c =
     let old = c.args.newer.now in
@@ -112,6 +107,6 @@ returns-in-Err-Cycle-clause-refused g c =
       held,
       ids_among old.kind base asked held held c.requires.closed.own (All-contains_itself held),
       subst (IsOwnAncestor old.kind held) (sym c.object_id.ensures)
-          (own_ancestor old.kind asked held c.in-Ok.lists c.requires.closed.own c.in-Ok.ensures c.in-Err-Cycle.number
-          c.of-contents.result.now cycle c.of-contents.ensures),
+          (own_ancestor old.kind asked held c.in-Ok.lists c.requires.closed.own c.in-Ok.ensures _ c.of-contents.result.now cycle
+          c.of-contents.ensures),
     )

@@ -25,7 +25,7 @@ add_all-requires-clause-closed g c =
     c.in-Ok.ensures.closed))
 
 pub returns-in-Ok-clause-asked : goal.returns-in-Ok-clause-asked
-returns-in-Ok-clause-asked g c = c.gather.ensures.asked c.num_waiting-_none.ensures.distinct
+returns-in-Ok-clause-asked g c = c.gather.ensures.asked c.num_waiting-none.ensures.distinct
 
 pub returns-in-Ok-clause-added : goal.returns-in-Ok-clause-added
 returns-in-Ok-clause-added g c =
@@ -117,7 +117,7 @@ returns-in-Ok-clause-refused g c =
     c.add_all.ensures.refused
 
 pub returns-in-Err-clause-asked : goal.returns-in-Err-clause-asked
-returns-in-Err-clause-asked g c = c.gather.ensures.asked c.num_waiting-_some.ensures.distinct
+returns-in-Err-clause-asked g c = c.gather.ensures.asked c.num_waiting-some.ensures.distinct
 
 pub returns-in-Err-clause-added : goal.returns-in-Err-clause-added
 returns-in-Err-clause-added g c = ([], c.gather.ensures.commits, All-nil _)

@@ -24,9 +24,11 @@ returns-in-Err-parse-clause-refused g c =
     let taken = c.in-Ok.ensures.taken in
     let contents : List ℕ = c.take_next.new.self.contents in (
       taken.oldest,
-      contents,
-      commit_id old.kind r.kind r.type c.in-Ok.id contents c.requires.commits c.requires.kind taken.own,
-      subst (λ (bytes : List ℕ). (said : Said) → ¬ Says old.kind bytes said) c.contents.ensures c.in-Err-parse.ensures,
+      (
+        contents,
+        commit_id old.kind r.kind r.type c.in-Ok.id contents c.requires.commits c.requires.kind taken.own,
+        subst (λ (bytes : List ℕ). (said : Said) → ¬ Says old.kind bytes said) c.contents.ensures c.in-Err-parse.ensures,
+      ),
     )
 
 pub returns-in-Err-want_parents-clause-refused : goal.returns-in-Err-want_parents-clause-refused
