@@ -107,6 +107,6 @@ returns-in-Err-Cycle-clause-refused g c =
       held,
       ids_among old.kind base asked held held c.requires.closed.own (All-contains_itself held),
       subst (IsOwnAncestor old.kind held) (sym c.object_id.ensures)
-          (own_ancestor old.kind asked held c.in-Ok.lists c.requires.closed.own c.in-Ok.ensures _ c.of-contents.result.now cycle
-          c.of-contents.ensures),
+          (own_ancestor old.kind asked held c.in-Ok.lists c.requires.closed.own c.in-Ok.ensures c.in-Err-Cycle.number
+          c.of-contents.result.now cycle (rw c.in-Err-Cycle.field-0-is at c.of-contents.ensures)),
     )
