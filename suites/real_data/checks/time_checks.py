@@ -1,14 +1,16 @@
 """Checks that checks, walks and merge bases take no longer than they have to: where two lines of commits share one long list of
-parents, where a commit has many parents, and where a chain is opened anew of which one layer is another.
+parents, where a commit has many parents, where a chain is opened anew of which one layer is another, and where a branch begins with
+a root of its own.
 """
 
 import os
+import re
 import time
 from functools import partial
 
 from checks.ask_checks import Asking
 from checks.program import processor_seconds
-from damage import trees
+from damage import examples, trees
 from damage.built import NO_PARENT, TOP_BIT, Commit, file_of
 from damage.layer import big_endian, with_chunks
 from expected import judge
@@ -35,6 +37,9 @@ MANY = 120
 TIMES = 20_000
 """So often each question about it is asked."""
 
+BEFORE = 12_000
+"""So many commits are in a line, before a branch of three that begins with a root of its own and is then merged."""
+
 
 def check_all(programs, results, folder):
     """The checks, whose files stand in a folder of their own."""
@@ -51,6 +56,7 @@ def check_all(programs, results, folder):
     title = "a chain of which one layer is another is opened anew in less time than its check takes"
     results.check(title, opened_anew(histories, os.path.join(folder, "chain"), lower))
     results.check("a walk takes about as long as a search", walks(histories, os.path.join(folder, "wide")))
+    check_branch(histories, results, os.path.join(folder, "branch"))
 
 
 def id_of(place):
@@ -144,3 +150,42 @@ def walks(histories, path):
 def wide():
     """The parents and the generation numbers of two roots, of many commits on the first, and of their merge."""
     return [((), 1)] * 2 + [((0,), 2)] * MANY + [(tuple(range(2, 2 + MANY)), 3)]
+
+
+def check_branch(histories, results, path):
+    """Checks how many commits a search for merge bases takes, by dates and without, in a checked graph and in a trusted one. Of the
+    branch's commits the generation numbers are low and the dates late, so by generation numbers the whole line comes before them.
+    """
+    few, many = range(20), range(BEFORE, 3 * BEFORE)
+    offsets = [0] * (BEFORE + 6)
+    late = [*offsets[: BEFORE - 1], 1, *offsets[BEFORE:]]
+    for name, further, checked, trusted in (
+        ("right dates", [examples.dates(offsets)], few, few),
+        ("a date that is a second late", [examples.dates(late)], many, few),
+        ("no dates", [], many, many),
+    ):
+        with open(path, "wb") as file:
+            file.write(examples.dated(branch(), *further))
+        for how, ask, visits in (("", histories.merge_base, checked), (" --unchecked", histories.merge_base_unchecked, trusted)):
+            said = ask(path, id_of(BEFORE + 4), id_of(BEFORE + 5))
+            results.check("a branch with a root of its own, %s: merge-base%s" % (name, how), of_branch(visits, said))
+
+
+def branch():
+    """The generation numbers, times and parents of the line, of the branch, of their merge, of its child, and of a child of the
+    line's last commit."""
+    line = [(place + 1, 1000 + place, (place - 1,) if place else ()) for place in range(BEFORE)]
+    branch = [(place + 1, 1000 + BEFORE + place, (BEFORE + place - 1,) if place else ()) for place in range(3)]
+    above = (BEFORE - 1, BEFORE + 2), (BEFORE + 3,), (BEFORE - 1,)
+    levels = BEFORE + 1, BEFORE + 2, BEFORE + 1
+    return line + branch + [(level, 1003 + BEFORE + place, parents) for place, (level, parents) in enumerate(zip(levels, above))]
+
+
+def of_branch(visits, said):
+    """A complaint where the answer is another than that the line's last commit is the base, or where it took fewer or more visits than
+    a range has."""
+    told = "base %d %s\nahead 5 behind 1\nvisits " % (BEFORE - 1, id_of(BEFORE - 1))
+    found = re.fullmatch(re.escape(told) + r"(\d+)\n", said.out.decode())
+    if said.status or said.err or not found:
+        return "it tells %r" % (said,)
+    return None if int(found[1]) in visits else "%s visits" % found[1]
