@@ -6,6 +6,7 @@ pub mod Files
 pub mod Held
 pub mod KnownOpening
 pub mod KnownPaths
+pub mod Order
 pub mod State
 pub mod ToldLimit
 pub mod Verdict
