@@ -1,4 +1,4 @@
-//! The corrected dates of an open graph, which lie in it from the first search on that goes by them.
+//! The corrected dates of an open graph, which lie in it once a search has looked for them.
 
 ghost use Rattle.std.specs.Prelude.{◌≡◌, ◌×◌, ◌<◌, All, IfOk, IfSome};
 ghost use Rattle.gix_commitgraph.specs.Graph.{total};

@@ -165,10 +165,10 @@ impl Opened {
         found
     }
 
-    /// What [`Comparer::compare`] answers, by a comparer over the same graph, which was checked: by a
-    /// search that visits the commits with the latest corrected dates first, if each layer has dates
-    /// and all are right, and else those with the highest generation numbers. The first call reads
-    /// and checks the dates, and keeps eight bytes for each commit.
+    /// What [`Comparer::compare`] answers, by a comparer over the same graph, which was checked. The
+    /// search visits the commits with the latest corrected dates first, if each layer has dates and
+    /// all are right, and else those with the highest generation numbers. The first call reads and
+    /// checks the dates, and keeps eight bytes for each commit.
     ///
     /// # Errors
     ///

@@ -10,8 +10,8 @@ ghost use Rattle.c_opening.specs.Order.{IsOrderedComparison};
 ghost use Rattle.commitgraph_c.specs.Compared.{AreNotTwo, AreTwo, TellsCompared};
 
 use crate::bases::{CgBases, tell};
-use c_opening::{CgGraph, Opened};
 use c_opening::codes::{CLOSED_GRAPH, NO_SUCH_POSITION, NOT_CHECKED, OUT_OF_MEMORY};
+use c_opening::{CgGraph, Opened};
 use gix_commitgraph::Position;
 use graph_history::{Checked, Comparer, Comparison};
 use std::alloc::Global;
