@@ -1,6 +1,6 @@
 //! The corrected dates of an open graph, which lie in it once a search has looked for them.
 
-ghost use Rattle.std.specs.Prelude.{◌≡◌, ◌×◌, ◌<◌, All, IfOk, IfSome};
+ghost use Rattle.std.specs.Prelude.{◌≡◌, ◌%◌, ◌<◌, All, IfOk, IfSome};
 ghost use Rattle.gix_commitgraph.specs.Graph.{total};
 ghost use Rattle.commit_search.specs.Positions.{numbers_of};
 ghost use Rattle.counted_slot.specs.Counting.{readers};
