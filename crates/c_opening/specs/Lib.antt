@@ -2,11 +2,11 @@ pub mod Answers
 pub mod AtPath
 pub mod Chain
 pub mod Codes
+pub mod ComparisonOrder
 pub mod Files
 pub mod Held
 pub mod KnownOpening
 pub mod KnownPaths
-pub mod Order
 pub mod State
 pub mod ToldLimit
 pub mod Verdict

@@ -4,7 +4,7 @@ ghost use Rattle.std.specs.Prelude.{◌≡◌, ◌%◌, ◌<◌, All, IfOk, IfSo
 ghost use Rattle.gix_commitgraph.specs.Graph.{total};
 ghost use Rattle.commit_search.specs.Positions.{numbers_of};
 ghost use Rattle.counted_slot.specs.Counting.{readers};
-ghost use Rattle.c_opening.specs.Order.{AreFoundDates, IsOrderedComparison};
+ghost use Rattle.c_opening.specs.ComparisonOrder.{AreFoundDates, IsOrderedComparison};
 
 use counted_slot::{Claim, Counted, FREE, Fits, MOST_READERS, ONE_READER, PRESENT, TAKEN};
 use gix_commitgraph::{Graph, Position};

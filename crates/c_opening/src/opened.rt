@@ -8,7 +8,7 @@ ghost use Rattle.gix_commitgraph.specs.Graph.{total};
 ghost use Rattle.gix_commitgraph.specs.Sound.{Sound};
 ghost use Rattle.commit_search.specs.Positions.{numbers_of};
 ghost use Rattle.commit_search.specs.WalkAnswer.{IsAnswer, MayLead};
-ghost use Rattle.c_opening.specs.Order.{IsOrderedComparison};
+ghost use Rattle.c_opening.specs.ComparisonOrder.{IsOrderedComparison};
 
 use crate::dates::KeptDates;
 use crate::resting::Resting;
@@ -165,10 +165,10 @@ impl Opened {
         found
     }
 
-    /// What [`Comparer::compare`] answers, by a comparer over the same graph, which was checked. The
-    /// search visits the commits with the latest corrected dates first, if each layer has dates and
-    /// all are right, and else those with the highest generation numbers. The first call reads and
-    /// checks the dates, and keeps eight bytes for each commit.
+    /// What [`Comparer::compare`] answers, by a comparer over the same graph, which was checked.
+    /// The search visits the commits with the latest corrected dates first, if each layer has dates
+    /// and all are right, and else those with the highest generation numbers. The first call reads
+    /// and checks the dates, and keeps eight bytes for each commit.
     ///
     /// # Errors
     ///

@@ -7,7 +7,7 @@ use Rattle.std.proofs.Math.Seq.{drop-length}
 use Rattle.std.proofs.lemmas.Bool.{cases_lt}
 use Rattle.std.proofs.lemmas.List.{take_more, take_all, length-map, map-append, append-nil}
 use Rattle.graph_format.specs.Layer.{Layer}
-use Rattle.c_opening.specs.Order.{IsOrderedComparison}
+use Rattle.c_opening.specs.ComparisonOrder.{IsOrderedComparison}
 use Rattle.graph_bases.specs.declared.bases.Comparison.{Comparison}
 use Rattle.commitgraph_c.specs.QueryAnswers.{TellsComparison}
 use Rattle.c_opening.specs.Answers.{written}

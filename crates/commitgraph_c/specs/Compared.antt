@@ -6,7 +6,7 @@ use Rattle.gix_commitgraph.specs.Graph.{total}
 use Rattle.commit_search.specs.Positions.{numbers_of}
 use Rattle.graph_bases.specs.declared.bases.Comparison.{Comparison}
 use Rattle.c_opening.specs.Answers.{written}
-use Rattle.c_opening.specs.Order.{IsOrderedComparison}
+use Rattle.c_opening.specs.ComparisonOrder.{IsOrderedComparison}
 use Rattle.commitgraph_c.specs.declared.bases.CgBases.{CgBases}
 use Rattle.commitgraph_c.specs.declared.compare.CgTwo.{CgTwo}
 

@@ -6,7 +6,7 @@ ghost use Rattle.gix_commitgraph.specs.Graph.{total};
 ghost use Rattle.commitgraph_c.specs.QueryAnswers.{IsChecked, TellsBases, TellsComparison};
 ghost use Rattle.commitgraph_c.specs.QueryAnswers.{TellsNoBases};
 ghost use Rattle.c_opening.specs.Codes.{closed_graph, no_such_position, not_checked};
-ghost use Rattle.c_opening.specs.Order.{IsOrderedComparison};
+ghost use Rattle.c_opening.specs.ComparisonOrder.{IsOrderedComparison};
 
 use crate::positions::{are_below, positions_of, write_positions};
 use c_opening::CgGraph;

@@ -6,7 +6,7 @@ ghost use Rattle.gix_commitgraph.specs.Graph.{total};
 ghost use Rattle.commitgraph_c.specs.QueryAnswers.{IsChecked};
 ghost use Rattle.c_opening.specs.Codes.{closed_graph, no_such_position, not_checked};
 ghost use Rattle.c_opening.specs.Codes.{out_of_memory};
-ghost use Rattle.c_opening.specs.Order.{IsOrderedComparison};
+ghost use Rattle.c_opening.specs.ComparisonOrder.{IsOrderedComparison};
 ghost use Rattle.commitgraph_c.specs.Compared.{AreNotTwo, AreTwo, TellsCompared};
 
 use crate::bases::{CgBases, tell};

@@ -2,7 +2,7 @@ use Rattle.std.proofs.Common.{rules, ◌≡◌, ◌<◌, ◌∙◌, All, List, S
 use Rattle.graph_format.specs.Layer.{Layer}
 use Rattle.gix_commitgraph.specs.Graph.{total}
 use Rattle.commit_search.specs.Positions.{numbers_of}
-use Rattle.c_opening.specs.Order.{IsOrderedComparison}
+use Rattle.c_opening.specs.ComparisonOrder.{IsOrderedComparison}
 use Rattle.commitgraph_c.proofs.PositionNumbers.{all_below}
 use Rattle.commitgraph_c.proofs.bases.cg_merge_bases.Goals as goal
 
