@@ -547,16 +547,18 @@ CG_NODISCARD cg_answered cg_are_ancestors(cg_graph graph, const cg_pair *pairs, 
 
 /* The merge bases of a commit and some others. On CG_OK there are `length`; `ahead` commits are those that the first leads to
  * and none of the others does, and `behind` those that some of the others leads to and the first does not; `visits` commits
- * were visited. The other codes are those of cg_reached; CG_NO_SUCH_POSITION where a position of any of them is none. */
+ * were visited, those with the latest corrected dates first, if each layer has dates and all are right, and else those with the
+ * highest generation numbers. The other codes are those of cg_reached; CG_NO_SUCH_POSITION where a position of any of them is none. */
 typedef struct cg_bases { uint32_t code, ahead, behind; uint64_t visits, length; } cg_bases;
 
 /* Looks for the merge bases that `git merge-base --all FIRST OTHERS..` names, and writes their positions, the least first, as
- * many as there is room for. */
+ * many as there is room for. The first call for merge bases of a graph also checks its corrected dates, which cg_close frees: 8 bytes
+ * for each commit. Where calls are made at a time before that, each checks them. */
 CG_NODISCARD cg_bases cg_merge_bases(cg_graph graph, uint32_t first, const uint32_t *others, size_t count, uint32_t *out, size_t len);
 
 /* The same, unless the limit stops it, as cg_ancestor_walk_within; but a limit of as many visits as the graph has commits may still stop
  * it, since commits at the greatest generation number are visited again where more is found out about them. One of three times as many
- * does not. */
+ * does not. It visits commits by their generation numbers, whatever the dates. */
 CG_NODISCARD cg_bases cg_merge_bases_within(cg_graph graph, uint32_t first, const uint32_t *others, size_t count, cg_limit limit,
                                             uint32_t *out, size_t len);
 

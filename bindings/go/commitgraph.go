@@ -754,21 +754,36 @@ type Comparison struct {
 
 // Compare finds the merge bases that git merge-base --all FIRST OTHERS.. names.
 func (g *Graph) Compare(first uint32, others ...uint32) (Comparison, error) {
-	return g.CompareWithin(context.Background(), math.MaxUint64, first, others...)
+	return g.compared(first, others, func(asked, out []uint32) (told C.cg_bases, err error) {
+		told = C.cg_merge_bases(g.raw(), C.uint32_t(first), (*C.uint32_t)(&asked[0]), C.size_t(len(others)),
+			(*C.uint32_t)(&out[0]), C.size_t(len(out)))
+		if told.code != C.CG_OK {
+			err = &Error{Code: uint32(told.code)}
+		}
+		return told, err
+	})
 }
 
-// CompareWithin finds them, unless it would have to visit more commits, or the context is done, whose error is answered then.
+// CompareWithin finds them by generation numbers alone, unless it would have to visit more commits, or the context is done, whose
+// error is answered then.
 func (g *Graph) CompareWithin(ctx context.Context, visits uint64, first uint32, others ...uint32) (Comparison, error) {
+	return g.compared(first, others, func(asked, out []uint32) (told C.cg_bases, err error) {
+		err = within(ctx, visits, func(limit C.cg_limit) C.uint32_t {
+			told = C.cg_merge_bases_within(g.raw(), C.uint32_t(first), (*C.uint32_t)(&asked[0]), C.size_t(len(others)), limit,
+				(*C.uint32_t)(&out[0]), C.size_t(len(out)))
+			return told.code
+		})
+		return told, err
+	})
+}
+
+// compared makes a search for merge bases, and makes it again where they take more room.
+func (g *Graph) compared(first uint32, others []uint32, search func(asked, out []uint32) (C.cg_bases, error)) (Comparison, error) {
 	defer runtime.KeepAlive(g)
 	asked := append(append([]uint32{}, others...), 0)
 	for room := 64; ; {
 		out := make([]uint32, room)
-		var told C.cg_bases
-		err := within(ctx, visits, func(limit C.cg_limit) C.uint32_t {
-			told = C.cg_merge_bases_within(g.raw(), C.uint32_t(first), (*C.uint32_t)(&asked[0]), C.size_t(len(others)), limit,
-				(*C.uint32_t)(&out[0]), C.size_t(room))
-			return told.code
-		})
+		told, err := search(asked, out)
 		if err != nil {
 			return Comparison{}, g.positioned(err, append([]uint32{first}, others...)...)
 		}

@@ -373,6 +373,7 @@ CALLS = {
     "cg_commit_at": (c_bool, (_Graph, c_uint32, POINTER(_Commit))),
     "cg_parents": (_ParentCount, (_Graph, c_uint32, c_void_p, c_size_t)),
     "cg_is_ancestor_within": (_Leads, (_Graph, c_uint32, c_uint32, _Limit)),
+    "cg_merge_bases": (_Bases, (_Graph, c_uint32, c_void_p, c_size_t, c_void_p, c_size_t)),
     "cg_merge_bases_within": (_Bases, (_Graph, c_uint32, c_void_p, c_size_t, _Limit, c_void_p, c_size_t)),
     "cg_merge_bases_of": (_Compared, (_Graph, POINTER(_Two), c_size_t, POINTER(_Bases), c_size_t, c_void_p, c_size_t)),
     "cg_write": (_WriteError, (_Graph, POINTER(_NewCommit), c_size_t, POINTER(_Bytes))),
@@ -601,11 +602,14 @@ class Graph:
         self, first: int, others: Sequence[int], visits: int | None = None, flag: Flag | None = None
     ) -> Comparison:
         """The merge bases that `git merge-base --all FIRST OTHERS..` names, and how far the commits have come apart. It is stopped as
-        `is_ancestor` is."""
+        `is_ancestor` is, and with `visits` or `flag` goes by generation numbers alone."""
         graph, asked, room, limit = self._graph, _places(others), 64, _limit(visits, flag)
         while True:
             out = (c_uint32 * room)()
-            told = _library.cg_merge_bases_within(graph, _place(first), asked, len(others), limit, out, room)
+            if visits is None and flag is None:
+                told = _library.cg_merge_bases(graph, _place(first), asked, len(others), out, room)
+            else:
+                told = _library.cg_merge_bases_within(graph, _place(first), asked, len(others), limit, out, room)
             if told.code:
                 raise _unanswered(graph, told.code, first, *others)
             if told.length <= room:

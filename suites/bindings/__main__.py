@@ -9,6 +9,7 @@ one line says what is left out. Where HISTORYTOOL is `-`, its path comes as a li
 `python3 suites/bindings --library LOG` only builds the static library, beside an `rt ci` that writes LOG, as soon as that has
 proved the library for C.
 """
+import branches
 import chunked
 import concurrent.futures
 import ctypes
@@ -319,6 +320,8 @@ def refused_and_shared(name, compiler, archive, scratch, graphs):
             expect(f"{title}: a query made again asks for no memory", calls.pop("ancestor_again", None) == "0", done)
             expect(f"{title}: each call that allocates is refused", calls and all(int(n) > 0 for n in calls.values()), done)
             expect(f"{title}: many pairs are searched with one memory", calls.get("one_pair") == calls.get("three_pairs"), done)
+            again, first = (int(calls.get(name, 0)) for name in ("bases_again", "bases"))
+            expect(f"{title}: merge bases sought again ask for no dates", 0 < again < first, done)
         apart, alike = (run(program, "check", "-", *real.fronted(scratch / compiler, kind, it)) for it in (b"\x11\x22", b"\x11\x11"))
         counts = [int(done.stdout.split()[1]) if done.returncode == 0 else 0 for done in (apart, alike)]
         expect(f"{name}, {kind}: whole ids are sorted only where fronts are alike", 0 < counts[0] < counts[1], (apart, alike))
@@ -872,6 +875,7 @@ def parts(archive, scratch, graphs):
     yield from (functools.partial(many_commits, compiler, archive, scratch) for compiler in compilers[:1])
     yield functools.partial(installed, compilers, scratch, graphs)
     yield functools.partial(python, archive)
+    yield functools.partial(own_root, archive.with_suffix(".so"))
     if present("cargo", "Rust"):
         at = {**os.environ, "CARGO_TARGET_DIR": str(scratch / "target")}
         at.pop("COMMITGRAPH_LIB", None)
@@ -883,6 +887,12 @@ def together(calls):
     with concurrent.futures.ThreadPoolExecutor() as pool:
         for done in [pool.submit(call) for call in calls]:
             done.result()
+
+
+def own_root(library):
+    """Merge bases over a branch that begins with a root of its own."""
+    for name, seen, good in branches.checks(library):
+        expect(f"a branch with a root of its own, {name}", good, seen)
 
 
 def with_historytool():

@@ -305,15 +305,17 @@ static bool stops_walk(cg_graph graph, uint32_t from, uint32_t to, cg_reached wh
     return cg_flag_free(&flag) && good;
 }
 
-/* Whether the search for merge bases with a limit answers what the one without does, or stops, in the same way. */
+/* Whether the search for merge bases with a limit answers what the one without does, or stops, in the same way. It goes by generation
+ * numbers, so its visits are its own. */
 static bool stops_bases(cg_graph graph, uint32_t first, const uint32_t *others, size_t count, cg_bases whole, const uint32_t *bases) {
     uint32_t out[ROOM];
     cg_flag flag = CG_NO_FLAG;
     if (cg_flag_new(&flag)) return false;
+    cg_limit none = { UINT64_MAX, CG_NO_FLAG };
+    whole.visits = cg_merge_bases_within(graph, first, others, count, none, out, ROOM).visits;
     cg_limit enough = { whole.visits, CG_NO_FLAG }, flagged = { UINT64_MAX, flag }, few = { whole.visits - 1, CG_NO_FLAG };
     for (int i = 0; i < 3; i++) {
-        cg_limit limit = i == 2 ? flagged : enough;
-        if (i == 1) limit.visits = UINT64_MAX;
+        cg_limit limit = i == 2 ? flagged : i == 1 ? none : enough;
         cg_bases told = cg_merge_bases_within(graph, first, others, count, limit, out, ROOM);
         if (memcmp(&told.ahead, &whole.ahead, sizeof told - offsetof(cg_bases, ahead)) || told.code) return false;
         if (memcmp(out, bases, told.length * sizeof *out)) return false;

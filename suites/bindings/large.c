@@ -158,7 +158,7 @@ static void stop(const cg_file *file, cg_graph graph, cg_pair pair) {
     cg_flag flag = CG_NO_FLAG;
     agree(!cg_flag_new(&flag));
     cg_reached whole = cg_ancestor_walk(graph, pair.descendant, pair.ancestor, out, count);
-    cg_bases all = cg_merge_bases(graph, pair.descendant, &pair.ancestor, 1, out, count);
+    cg_bases all = cg_merge_bases_within(graph, pair.descendant, &pair.ancestor, 1, (cg_limit){ UINT64_MAX, CG_NO_FLAG }, out, count);
     agree(whole.visits > KINDS && all.visits > KINDS);
     for (int turn = 0; turn < 3; turn++) {
         cg_limit limit = { turn == 1 ? KINDS / 2 : turn ? UINT64_MAX : count, flag };

@@ -276,14 +276,27 @@ static outcome probe(void) {
     return told.answered != (seen == DONE) || (bits[0] == OTHER + 1) != (seen == DONE) ? WRONG : seen;
 }
 
-static outcome bases(void) {
+static outcome look_for_bases(void) {
     uint32_t others[2] = { to, from };
     memset(out, OTHER, sizeof out);
     outcome found = outcome_of(cg_merge_bases(graph, from, others, 2, out, ROOM).code);
     return found == NO_MEMORY && !unwritten(out, sizeof out) ? WRONG : found;
 }
 
-static outcome bases_of(void) {
+static outcome bases(void) { return on_a_new_graph(look_for_bases); }
+
+/* Merge bases a second time: the graph has its dates. */
+static outcome look_for_bases_again(void) {
+    long later = left;
+    left = NONE;
+    if (look_for_bases() != DONE) return WRONG;
+    left = later;
+    return look_for_bases();
+}
+
+static outcome bases_again(void) { return on_a_new_graph(look_for_bases_again); }
+
+static outcome look_for_bases_of(void) {
     cg_two pairs[] = { { from, to }, { to, from }, { from, from } };
     cg_bases answers[3];
     memset(out, OTHER, sizeof out);
@@ -296,6 +309,8 @@ static outcome bases_of(void) {
     }
     return length != told.length || !unwritten(out + length, (ROOM - length) * sizeof *out) ? WRONG : outcome_of(told.code);
 }
+
+static outcome bases_of(void) { return on_a_new_graph(look_for_bases_of); }
 
 /* A layer with some commits: a new one on top of the graph, or those of the graph in one file. */
 static outcome writing(cg_graph below, const cg_new_commit *commits, size_t count) {
@@ -420,6 +435,7 @@ int main(int argc, char **argv) {
     printf("dates %ld\n", refusals("dates", dates));
     printf("probe %ld\n", refusals("probe", probe));
     printf("bases %ld\n", refusals("bases", bases));
+    printf("bases_again %ld\n", refusals("bases_again", bases_again));
     printf("bases_of %ld\n", refusals("bases_of", bases_of));
     uint8_t *ids;
     all_commits = commits_of(graph, 0, cg_num_commits(graph), &ids);

@@ -215,13 +215,13 @@ GROWING = (
     Row("cg_are_ancestors", ("tower",), LOGARITHMIC, LINEAR),
     Row("cg_are_ancestors", ("padding",), CONSTANT, CONSTANT),
     Row("cg_merge_bases", ("lines", "prefix", "parents", "lists"), LINEAR, LINEAR),
-    Row("cg_merge_bases", ("tower",), LOGARITHMIC, LINEAR),
+    Row("cg_merge_bases", ("tower",), LINEAR.at_most(2), LINEAR),
     Row("cg_merge_bases", ("padding",), CONSTANT, CONSTANT),
     Row("cg_merge_bases_within", ("lines", "prefix", "parents", "lists"), LINEAR, LINEAR),
     Row("cg_merge_bases_within", ("tower",), LOGARITHMIC, LINEAR),
     Row("cg_merge_bases_within", ("padding",), CONSTANT, CONSTANT),
     Row("cg_merge_bases_of", ("lines", "prefix", "layers", "parents", "lists"), LINEAR, LINEAR),
-    Row("cg_merge_bases_of", ("tower",), LOGARITHMIC, LINEAR),
+    Row("cg_merge_bases_of", ("tower",), LINEAR.at_most(2), LINEAR),
     Row("cg_merge_bases_of", ("padding",), CONSTANT, CONSTANT),
     Row("cg_corrected_dates", (*COMMITS, "layers", "parents", "lists"), LINEAR.at_most(2), LINEAR),
     Row("cg_corrected_dates", ("padding",), CONSTANT, CONSTANT),
@@ -235,7 +235,8 @@ GROWING = (
     Row("cg_bytes_copy", ("lines", "prefix", "layers", "parents"), LINEAR, CONSTANT),
     Row("cg_chain_line", ("lines", "prefix"), LINEAR, CONSTANT),
 )
-"""The calls of the library whose costs may grow with some shape, or are asked of others than the rest."""
+"""The calls of the library whose costs may grow with some shape, or are asked of others than the rest. The first call for merge bases
+without a limit checks the corrected dates of the graph."""
 
 CALLS = (*GROWING, *(Row(name, CALLED, CONSTANT, CONSTANT) for name in library.names() if name not in {row.name for row in GROWING}))
 """All calls: any other may cost no more, however large the graph is."""

@@ -2,6 +2,7 @@ pub mod Answers
 pub mod AtPath
 pub mod Chain
 pub mod Codes
+pub mod ComparisonOrder
 pub mod Files
 pub mod Held
 pub mod KnownOpening

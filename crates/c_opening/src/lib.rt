@@ -10,6 +10,7 @@ mod at_path;
 pub mod check;
 mod check_within;
 pub mod codes;
+mod dates;
 mod flag;
 mod flag_handle;
 mod flags;

@@ -1,18 +1,21 @@
-//! A graph that was opened, whether it was checked, and the searcher that rests in it.
+//! A graph that was opened, whether it was checked, and what searches keep in it.
 
-ghost use Rattle.std.specs.Prelude.{◌≡◌, ◌≢◌, ◌⊎◌, ◌↔◌, ◌<◌, false, true, IfOk, IfSome, IsTrue};
-ghost use Rattle.std.specs.Prelude.{OnErr, is_some};
+ghost use Rattle.std.specs.Prelude.{◌≡◌, ◌≢◌, ◌⊎◌, ◌↔◌, ◌<◌, false, true, All, IfOk, IfSome};
+ghost use Rattle.std.specs.Prelude.{IsTrue, OnErr, is_some};
 ghost use Rattle.graph_walks.specs.Walks.{Reaches};
 ghost use Rattle.graph_format.specs.StoredHistory.{history_of};
 ghost use Rattle.gix_commitgraph.specs.Graph.{total};
 ghost use Rattle.gix_commitgraph.specs.Sound.{Sound};
+ghost use Rattle.commit_search.specs.Positions.{numbers_of};
 ghost use Rattle.commit_search.specs.WalkAnswer.{IsAnswer, MayLead};
+ghost use Rattle.c_opening.specs.ComparisonOrder.{IsOrderedComparison};
 
+use crate::dates::KeptDates;
 use crate::resting::Resting;
 use commit_search::FewSearcher;
 use gix_commitgraph::{Graph, Position};
 use graph_ancestors::{InMemory, Reached};
-use graph_history::{Checked, CheckedGraph};
+use graph_history::{Checked, CheckedGraph, Comparer, Comparison};
 use std::alloc::{AllocError, Global};
 use std::marker::Model;
 
@@ -31,9 +34,11 @@ pub(crate) enum State {
 pub struct Opened {
     state: State,
     resting: Resting,
+    dates: KeptDates,
 }
 
 impl Model for Opened {
+    ghost use Rattle.std.specs.Prelude.{◌≡◌};
     ghost use Rattle.std.specs.Prelude.{List, Bool};
     ghost use Rattle.graph_format.specs.Layer.{Layer};
     ghost use Rattle.c_opening.specs.State.{content_of};
@@ -41,6 +46,8 @@ impl Model for Opened {
     ghost Value = { List Layer × Bool };
 
     ghost view = { λ a. content_of a.state };
+
+    ghost invariant = { λ a. a.dates ≡ (content_of a.state).0 };
 }
 
 impl Opened {
@@ -48,9 +55,11 @@ impl Opened {
     pub fn unchecked(graph: Graph) -> Opened
         ensures { result ≡ (graph, false) }
     {
+        let dates = KeptDates::new(&graph);
         Opened {
             state: State::Unchecked(graph),
             resting: Resting::new(),
+            dates,
         }
     }
 
@@ -58,9 +67,11 @@ impl Opened {
     pub fn checked(graph: CheckedGraph) -> Opened
         ensures { result ≡ (graph.layers, true) }
     {
+        let dates = KeptDates::new(graph.as_checked().graph());
         Opened {
             state: State::Checked(graph),
             resting: Resting::new(),
+            dates,
         }
     }
 
@@ -79,7 +90,7 @@ impl Opened {
     pub fn into_graph(self) -> Graph
         ensures { result ≡ self.0 }
     {
-        let Opened { state, resting: _ } = self;
+        let Opened { state, .. } = self;
         match state {
             State::Unchecked(graph) => graph,
             State::Checked(graph) => graph.into_graph(),
@@ -152,5 +163,30 @@ impl Opened {
         let found = searcher.is_ancestor(&mut commits, ancestor, descendant);
         self.resting.put_back(searcher);
         found
+    }
+
+    /// What [`Comparer::compare`] answers, by a comparer over the same graph, which was checked.
+    /// The search visits the commits with the latest corrected dates first, if each layer has dates
+    /// and all are right, and else those with the highest generation numbers. The first call reads
+    /// and checks the dates, and keeps eight bytes for each commit.
+    ///
+    /// # Errors
+    ///
+    /// Those of [`Comparer::compare`], or there was no memory for the dates.
+    pub fn compare(
+        &self,
+        alloc: Global,
+        comparer: &mut Comparer<'_, '_>,
+        first: Position,
+        others: &[Position],
+    ) -> Result<Comparison, AllocError>
+        requires graph { comparer.old.layers ≡ self.now.0 }
+        requires first { first.0 < total self.now.0 }
+        requires others { All (λ other. other.0 < total self.now.0) others.now }
+        ensures graph { comparer.new ≡ comparer.old }
+        ensures exact { IfOk result (IsOrderedComparison self.now.0 first.0
+            (numbers_of others.now)) }
+    {
+        self.dates.compare(alloc, comparer, first, others)
     }
 }

@@ -7,7 +7,7 @@ use Rattle.std.proofs.Math.Seq.{drop-length}
 use Rattle.std.proofs.lemmas.Bool.{cases_lt}
 use Rattle.std.proofs.lemmas.List.{take_more, take_all, length-map, map-append, append-nil}
 use Rattle.graph_format.specs.Layer.{Layer}
-use Rattle.graph_history.specs.GraphComparison.{IsComparisonOf}
+use Rattle.c_opening.specs.ComparisonOrder.{IsOrderedComparison}
 use Rattle.graph_bases.specs.declared.bases.Comparison.{Comparison}
 use Rattle.commitgraph_c.specs.QueryAnswers.{TellsComparison}
 use Rattle.c_opening.specs.Answers.{written}
@@ -38,7 +38,7 @@ as_many layers (t ∷ ts) [] all = absurd all
 as_many layers (t ∷ ts) (c ∷ cs) all = ap suc (as_many layers ts cs all.1)
 
 one_exact : (layers : List Layer) (twos : List CgTwo) (cs : List Comparison) (two : CgTwo) (c : Comparison)
-    → AreComparisonsOf layers twos cs → IsComparisonOf layers two.first (two.other ∷ []) c
+    → AreComparisonsOf layers twos cs → IsOrderedComparison layers two.first (two.other ∷ []) c
     → AreComparisonsOf layers (twos ++ two ∷ []) (cs ++ c ∷ [])
 one_exact layers [] [] two c all is = (is, tt)
 one_exact layers [] (d ∷ ds) two c all is = absurd all
@@ -93,7 +93,7 @@ more_bases bases more room now part before used counted here few told is =
 pub next_compared : (layers : List Layer) (twos : List CgTwo) (i : ℕ) (d : CgTwo) (before after used : ℕ)
     (answers answered : List CgBases) (room now part : List ℕ) (c : Comparison) (told : CgBases)
     → i < length twos → i < length answers
-    → IsComparisonOf layers (get_or twos i d).first ((get_or twos i d).other ∷ []) c → told.code ≡ 0
+    → IsOrderedComparison layers (get_or twos i d).first ((get_or twos i d).other ∷ []) c → told.code ≡ 0
     → TellsComparison c told (drop used now) part → used ≡ min before (length now)
     → after ≡ min (before + told.length) (2 ^ 64 - 1) → length room < 2 ^ 64
     → TellsCompared layers (take i twos) before answers answered room now

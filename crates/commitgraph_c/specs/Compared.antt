@@ -4,9 +4,9 @@ use Rattle.std.specs.List.{flat_map}
 use Rattle.graph_format.specs.Layer.{Layer}
 use Rattle.gix_commitgraph.specs.Graph.{total}
 use Rattle.commit_search.specs.Positions.{numbers_of}
-use Rattle.graph_history.specs.GraphComparison.{IsComparisonOf}
 use Rattle.graph_bases.specs.declared.bases.Comparison.{Comparison}
 use Rattle.c_opening.specs.Answers.{written}
+use Rattle.c_opening.specs.ComparisonOrder.{IsOrderedComparison}
 use Rattle.commitgraph_c.specs.declared.bases.CgBases.{CgBases}
 use Rattle.commitgraph_c.specs.declared.compare.CgTwo.{CgTwo}
 
@@ -16,7 +16,7 @@ AreComparisonsOf layers [] [] = ⊤
 AreComparisonsOf layers [] (comparison ∷ comparisons) = ⊥
 AreComparisonsOf layers (two ∷ twos) [] = ⊥
 AreComparisonsOf layers (two ∷ twos) (comparison ∷ comparisons) =
-    IsComparisonOf layers two.first (two.other ∷ []) comparison × AreComparisonsOf layers twos comparisons
+    IsOrderedComparison layers two.first (two.other ∷ []) comparison × AreComparisonsOf layers twos comparisons
 
 -- the positions of the merge bases, as numbers
 abbrev pub base_positions : Comparison → List ℕ

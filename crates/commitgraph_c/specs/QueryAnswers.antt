@@ -6,7 +6,6 @@ use Rattle.graph_format.specs.Layer.{Layer, record_at}
 use Rattle.graph_format.specs.StoredHistory.{history_of}
 use Rattle.commit_search.specs.WalkAnswer.{IsAnswer}
 use Rattle.commit_search.specs.Positions.{numbers_of}
-use Rattle.graph_history.specs.GraphComparison.{IsComparisonOf}
 use Rattle.commit_search.specs.declared.Reached.{Reached}
 use Rattle.graph_bases.specs.declared.bases.Comparison.{Comparison}
 use Rattle.c_opening.specs.Codes.{parent_code}
@@ -51,10 +50,11 @@ pub record TellsComparison (comparison : Comparison) (told : CgBases) (old new :
   pub length_of : told.length ≡ length comparison.bases.positions.items
   pub room : new ≡ written (numbers_of comparison.bases.positions.items) old
 
--- The merge bases of a commit of a graph and some others are told, and how far they have come apart.
-pub record TellsBases (layers : List Layer) (first : ℕ) (others : List ℕ) (told : CgBases) (old new : List ℕ) : Type 0 where
+-- A comparison of a commit of a graph and some others, as one is said to be, is told: their merge bases, and how far they have
+-- come apart.
+pub record TellsBases (Compares : Comparison → Type 0) (told : CgBases) (old new : List ℕ) : Type 0 where
   pub comparison : Comparison
-  pub exact : IsComparisonOf layers first others comparison
+  pub exact : Compares comparison
   pub tells : TellsComparison comparison told old new
 
 -- No merge base is told, and no number.

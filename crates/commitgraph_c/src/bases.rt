@@ -6,12 +6,13 @@ ghost use Rattle.gix_commitgraph.specs.Graph.{total};
 ghost use Rattle.commitgraph_c.specs.QueryAnswers.{IsChecked, TellsBases, TellsComparison};
 ghost use Rattle.commitgraph_c.specs.QueryAnswers.{TellsNoBases};
 ghost use Rattle.c_opening.specs.Codes.{closed_graph, no_such_position, not_checked};
+ghost use Rattle.c_opening.specs.ComparisonOrder.{IsOrderedComparison};
 
 use crate::positions::{are_below, positions_of, write_positions};
 use c_opening::CgGraph;
 use c_opening::codes::{CLOSED_GRAPH, NO_SUCH_POSITION, NOT_CHECKED, OUT_OF_MEMORY};
 use gix_commitgraph::Position;
-use graph_history::{Checked, Comparison};
+use graph_history::{Checked, Comparer, Comparison};
 use std::alloc::Global;
 
 /// The merge bases of a commit and some others, and how far they have come apart.
@@ -37,7 +38,7 @@ pub fn cg_merge_bases(
     out: &mut [u32],
 ) -> CgBases
     ensures answer { result.code ≡ 0 → IsSomeAnd graph.address.held (λ held.
-        TellsBases held.0 first others.now result out.old out.new) }
+        TellsBases (IsOrderedComparison held.0 first others.now) result out.old out.new) }
     ensures nowhere { result.code ≡ no_such_position ↔ IsChecked graph.address.held (λ layers.
         (total layers ≤ first) ⊎ Any (λ other. total layers ≤ other) others.now) }
     ensures within { result.code ≡ 0 → IsChecked graph.address.held (λ layers.
@@ -62,7 +63,8 @@ pub fn cg_merge_bases(
     let Ok(others) = positions_of(alloc, others) else {
         return refused(OUT_OF_MEMORY);
     };
-    match checked.compare(alloc, Position(first), &others) {
+    let mut comparer = Comparer::new(alloc, &checked);
+    match opened.compare(alloc, &mut comparer, Position(first), &others) {
         Ok(comparison) => tell(&comparison, out),
         Err(_) => refused(OUT_OF_MEMORY),
     }

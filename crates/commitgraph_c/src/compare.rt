@@ -3,15 +3,15 @@
 ghost use Rattle.std.specs.Prelude.{◌≡◌, ◌↔◌, ◌<◌, ◌≤◌, ◌⊎◌, ◌∷◌, [], false, true, length, min};
 ghost use Rattle.std.specs.Prelude.{IfErr, IfOk, IfSome, IsSomeAnd, None, slice_get, take};
 ghost use Rattle.gix_commitgraph.specs.Graph.{total};
-ghost use Rattle.graph_history.specs.GraphComparison.{IsComparisonOf};
 ghost use Rattle.commitgraph_c.specs.QueryAnswers.{IsChecked};
 ghost use Rattle.c_opening.specs.Codes.{closed_graph, no_such_position, not_checked};
 ghost use Rattle.c_opening.specs.Codes.{out_of_memory};
+ghost use Rattle.c_opening.specs.ComparisonOrder.{IsOrderedComparison};
 ghost use Rattle.commitgraph_c.specs.Compared.{AreNotTwo, AreTwo, TellsCompared};
 
 use crate::bases::{CgBases, tell};
-use c_opening::CgGraph;
 use c_opening::codes::{CLOSED_GRAPH, NO_SUCH_POSITION, NOT_CHECKED, OUT_OF_MEMORY};
+use c_opening::{CgGraph, Opened};
 use gix_commitgraph::Position;
 use graph_history::{Checked, Comparer, Comparison};
 use std::alloc::Global;
@@ -68,19 +68,21 @@ pub fn cg_merge_bases_of(
         return uncompared(CLOSED_GRAPH);
     };
     match opened.as_checked() {
-        Some(checked) => compare_pairs(alloc, &checked, pairs, answers, out),
+        Some(checked) => compare_pairs(alloc, opened, &checked, pairs, answers, out),
         None => uncompared(NOT_CHECKED),
     }
 }
 
-/// Compares pairs of commits of a right graph, one after another, by one comparer.
+/// Compares pairs of commits of an open graph that is right, one after another, by one comparer.
 fn compare_pairs(
     alloc: Global,
+    opened: &Opened,
     graph: &Checked<'_>,
     pairs: &[CgTwo],
     answers: &mut [CgBases],
     out: &mut [u32],
 ) -> CgCompared
+    requires { graph.now.layers ≡ opened.now.0 }
     ensures answers { TellsCompared graph.now.layers (take result.answered pairs.now) result.length
         answers.old answers.new out.old out.new }
     ensures all { result.code ≡ 0
@@ -98,7 +100,7 @@ fn compare_pairs(
     let mut comparer = Comparer::new(alloc, graph);
     let mut length: u64 = 0;
     for place in 0..places {
-        match compare_two(&mut comparer, pairs[place]) {
+        match compare_two(alloc, opened, &mut comparer, pairs[place]) {
             Ok(comparison) => {
                 let used = length.min(out.len() as u64) as usize;
                 let answer = tell(&comparison, &mut out[used..]);
@@ -122,9 +124,15 @@ fn compare_pairs(
 }
 
 /// Compares two commits; or why not, where a position is none of the graph's, or memory ran out.
-fn compare_two(comparer: &mut Comparer<'_, '_>, two: CgTwo) -> Result<Comparison, u32>
+fn compare_two(
+    alloc: Global,
+    opened: &Opened,
+    comparer: &mut Comparer<'_, '_>,
+    two: CgTwo,
+) -> Result<Comparison, u32>
+    requires { comparer.old.layers ≡ opened.now.0 }
     ensures graph { comparer.new ≡ comparer.old }
-    ensures exact { IfOk result (IsComparisonOf comparer.old.layers two.first
+    ensures exact { IfOk result (IsOrderedComparison comparer.old.layers two.first
         (two.other ∷ [])) }
     ensures refused { IfErr result (λ code.
         ((code ≡ no_such_position) × AreNotTwo comparer.old.layers two)
@@ -134,7 +142,8 @@ fn compare_two(comparer: &mut Comparer<'_, '_>, two: CgTwo) -> Result<Comparison
     if two.first >= commits || two.other >= commits {
         return Err(NO_SUCH_POSITION);
     }
-    match comparer.compare(Position(two.first), &[Position(two.other)]) {
+    let (first, other) = (Position(two.first), Position(two.other));
+    match opened.compare(alloc, comparer, first, &[other]) {
         Ok(comparison) => Ok(comparison),
         Err(_) => Err(OUT_OF_MEMORY),
     }

@@ -6,6 +6,7 @@ ghost use Rattle.graph_walks.specs.Walks.{Reaches};
 ghost use Rattle.graph_format.specs.StoredHistory.{history_of};
 ghost use Rattle.gix_commitgraph.specs.Graph.{total};
 ghost use Rattle.commit_search.specs.WalkAnswer.{MayLead};
+ghost use Rattle.graph_history.specs.GraphComparison.{IsComparisonOf};
 ghost use Rattle.graph_history.specs.Limits.{IsToldWithin, MayBeStopped, SearchMayBeStopped};
 ghost use Rattle.commitgraph_c.specs.QueryAnswers.{IsChecked, TellsAnswer, TellsBases};
 ghost use Rattle.commitgraph_c.specs.QueryAnswers.{TellsNoBases};
@@ -107,7 +108,8 @@ pub fn cg_is_ancestor_within(
     }
 }
 
-/// Looks for merge bases as `cg_merge_bases` does, unless the limit stops it.
+/// Looks for merge bases as `cg_merge_bases` does, unless the limit stops it. The search goes by
+/// generation numbers.
 pub fn cg_merge_bases_within(
     alloc: Global,
     graph: CgGraph,
@@ -117,7 +119,7 @@ pub fn cg_merge_bases_within(
     out: &mut [u32],
 ) -> CgBases
     ensures answer { result.code ≡ 0 → IsSomeAnd graph.address.held (λ held.
-        TellsBases held.0 first others.now result out.old out.new) }
+        TellsBases (IsComparisonOf held.0 first others.now) result out.old out.new) }
     ensures within { result.code ≡ 0 → result.visits ≤ limit.visits }
     ensures stopped { result.code ≡ stopped → IsChecked graph.address.held (λ layers.
         MayBeStopped (told_bound limit) (3 * total layers)) }
