@@ -19,7 +19,7 @@ use Rattle.newer_commits.specs.declared.error.AddError.{AddError}
 use Rattle.newer_commits.specs.declared.error.AddError.TheVariants as add
 use Rattle.commit_requests.specs.Completion.{AddsInTurn, HaveIdsAmong}
 use Rattle.commit_requests.specs.Gathering.{AreClosed, IsThere, IsThereOrAsked}
-use Rattle.commit_requests.specs.Placing.{AddsOrHas, AreInOrder, AreListsOf, ComeAfterParents, HasNumbers, IsNumberThere}
+use Rattle.commit_requests.specs.Placing.{AddsOrHas, ParentsComeFirst, AreListsOf, ComeAfterParents, HasNumbers, IsNumberThere}
 use Rattle.commit_requests.specs.Placing.{IsLackingParent, IsOneRefusal, IsTurnRefusal}
 use Rattle.commit_requests.specs.declared.error.CompleteError.{CompleteError}
 use Rattle.commit_requests.specs.declared.error.CompleteError.TheVariants as refusal
@@ -142,7 +142,7 @@ module _ (kind : Kind) (base : List ℕ → Option ℕ → Type 0) where
           }))
           adds
 
-      module _ (order : AreInOrder kind base old read numbers) where
+      module _ (order : ParentsComeFirst kind base old read numbers) where
         parent_there : (said : Said) (id : List ℕ) → Says kind bytes said → Contains said.parents id → IsThere base mid id
         parent_there said id says contained =
             ⊎_elim
@@ -177,7 +177,7 @@ module _ (kind : Kind) (base : List ℕ → Option ℕ → Type 0) where
           (subst (λ (xs : List (List ℕ)). slice_get xs q ≡ Some id) are.own at)
 
       -- where each comes after its parents in the lists of these, each parent is there or comes before
-      pub in_order : AreInOrder kind base top read numbers
+      pub in_order : ParentsComeFirst kind base top read numbers
       in_order = record {
         readable = All-weaker
             (λ bytes. (said : Said) × Says kind bytes said × All (IsThereOrAsked base top asked) said.parents)

@@ -1,5 +1,6 @@
 -- What was read of the commits that were asked for, and what is still wanted. For private contracts alone.
-use Rattle.std.specs.Prelude.{◌≡◌, ◌⊎◌, ◌+◌, ◌<◌, ◌≤◌, ℕ, List, ◌∷◌, ◌++◌, [], All, Contains, Option, Some, None, length, map, slice_get, take}
+use Rattle.std.specs.Prelude.{◌≡◌, ◌⊎◌, ◌+◌, ◌<◌, ◌≤◌, ℕ, List, ◌∷◌, ◌++◌, [], All, Contains, Option, Some, None, length, map}
+use Rattle.std.specs.Prelude.{slice_get, take}
 use Rattle.std.specs.Prelude.{IfSome, ⊤}
 use Rattle.gix_hash_core.specs.declared.kind.Kind.{Kind}
 use Rattle.commit_objects.specs.CommitContents.{Said, Says}

@@ -1,5 +1,6 @@
 -- In which order commits that were read are added. For private contracts alone.
-use Rattle.std.specs.Prelude.{◌≡◌, ◌⊎◌, ◌<◌, ◌++◌, ◌∷◌, [], ℕ, List, All, Contains, Option, Some, None, length, slice_get, take, ⊤}
+use Rattle.std.specs.Prelude.{◌≡◌, ◌⊎◌, ◌<◌, ◌++◌, ◌∷◌, [], ℕ, List, All, Contains, Option, Some, None, length, slice_get, take}
+use Rattle.std.specs.Prelude.{⊤}
 use Rattle.gix_hash_core.specs.declared.kind.Kind.{Kind}
 use Rattle.commit_objects.specs.CommitContents.{Said, Says}
 use Rattle.commit_objects.specs.Object.{object_id_of}
@@ -45,7 +46,7 @@ abbrev pub IsNumberThere : Kind → (List ℕ → Option ℕ → Type 0) → Com
 IsNumberThere kind base top read n = (bytes : List ℕ) × (slice_get read n ≡ Some bytes) × IsThere base top (object_id_of kind bytes)
 
 -- Each parent of a commit is there, or is a commit that comes before it.
-pub record AreInOrder (kind : Kind) (base : List ℕ → Option ℕ → Type 0) (top : CommitsOnTop) (read : List (List ℕ))
+pub record ParentsComeFirst (kind : Kind) (base : List ℕ → Option ℕ → Type 0) (top : CommitsOnTop) (read : List (List ℕ))
     (numbers : List ℕ) : Type 0 where
   pub readable : All (λ bytes. (said : Said) × Says kind bytes said) read
   pub within : All (λ n. n < length read) numbers

@@ -4,7 +4,7 @@ ghost use Rattle.std.specs.Prelude.{◌≡◌, List, ℕ, All, Contains, IfErr, 
 ghost use Rattle.commit_objects.specs.CommitContents.{Said, Says};
 ghost use Rattle.commit_search.specs.Source.{Told};
 ghost use Rattle.commit_requests.specs.Completion.{AddsInTurn};
-ghost use Rattle.commit_requests.specs.Placing.{AddsOrHas, AreInOrder, IsNumberThere};
+ghost use Rattle.commit_requests.specs.Placing.{AddsOrHas, ParentsComeFirst, IsNumberThere};
 ghost use Rattle.commit_requests.specs.Placing.{IsLackingParent, IsOneRefusal, IsTurnRefusal};
 
 use crate::error::CompleteError;
@@ -21,7 +21,7 @@ pub(crate) fn add_each<S: Base>(
     held: &HeldContents,
     places: &[Placed],
 ) -> Result<(), CompleteError<S::Error>>
-    requires order { AreInOrder newer.old.kind (S.finds (S.facts newer.old.base))
+    requires order { ParentsComeFirst newer.old.kind (S.finds (S.facts newer.old.base))
         newer.old.commits held.now (map (λ place. place.number) places.now) }
     ensures known { S.known newer.new.base ≡ S.known newer.old.base }
     ensures facts { S.facts newer.new.base ≡ S.facts newer.old.base }

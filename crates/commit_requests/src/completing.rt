@@ -1,6 +1,7 @@
 //! Commits that are asked for until none is lacking.
 
-ghost use Rattle.std.specs.Prelude.{◌≡◌, ◌≢◌, ◌-◌, ◌≤◌, ◌<◌, [], All, Contains, IfErr, IfOk, IfSome, List, OnOk};
+ghost use Rattle.std.specs.Prelude.{◌≡◌, ◌≢◌, ◌-◌, ◌≤◌, ◌<◌, [], All, Contains, IfErr, IfOk};
+ghost use Rattle.std.specs.Prelude.{IfSome, List, OnOk};
 ghost use Rattle.std.specs.Prelude.{MatchOption, Option, Some, length, map, slice_get, take, ℕ};
 ghost use Rattle.std.specs.Io.KnownBytes.{Appends, Consumes, prepend_known};
 ghost use Rattle.commit_objects.specs.Object.{object_id_of};

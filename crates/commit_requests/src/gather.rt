@@ -1,6 +1,7 @@
 //! Commits that are asked for, with all that they lead to and that is lacking.
 
-ghost use Rattle.std.specs.Prelude.{◌≡◌, ◌+◌, ◌<◌, ◌≤◌, ◌^◌, ◌∷◌, [], All, Contains, IfErr, IfOk, List};
+ghost use Rattle.std.specs.Prelude.{◌≡◌, ◌+◌, ◌<◌, ◌≤◌, ◌^◌, ◌∷◌, [], All, Contains, IfErr, IfOk};
+ghost use Rattle.std.specs.Prelude.{List};
 ghost use Rattle.std.specs.Prelude.{OnOk, Option, length, ℕ};
 ghost use Rattle.std.specs.Io.KnownBytes.{Appends, Consumes, Keeps, prepend_known};
 ghost use Rattle.commit_search.specs.Source.{Told};

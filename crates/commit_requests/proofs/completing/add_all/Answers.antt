@@ -1,4 +1,5 @@
-use Rattle.std.proofs.Common.{◌≡◌, ◌+◌, ◌<◌, ◌∙◌, [], ℕ, List, All, Contains, Option, arith, ap, length, map, refl, slice_get, subst, sym}
+use Rattle.std.proofs.Common.{◌≡◌, ◌+◌, ◌<◌, ◌∙◌, [], ℕ, List, All, Contains, Option, arith, ap, length, map, refl, slice_get}
+use Rattle.std.proofs.Common.{subst, sym}
 use Rattle.std.proofs.lemmas.List.{length-map}
 use Rattle.std.proofs.lemmas.List.Elements.{All-contains_itself, All-nil, All-weaker}
 use Rattle.std.proofs.lemmas.Result.{IfErr-weaker, on_ok_weaker}
@@ -8,7 +9,7 @@ use Rattle.graph_levels.specs.OnTop.{IsLevelsRefusal}
 use Rattle.graph_levels.specs.ParentLists.{commit_count, parent_list}
 use Rattle.commit_requests.specs.Completion.{IsOwnAncestor}
 use Rattle.commit_requests.specs.Gathering.{IsThereOrAsked}
-use Rattle.commit_requests.specs.Placing.{AreInOrder, ComeAfterParents, IsNumberThere}
+use Rattle.commit_requests.specs.Placing.{ParentsComeFirst, ComeAfterParents, IsNumberThere}
 use Rattle.commit_requests.specs.declared.order.Placed.{Placed}
 use Rattle.commit_requests.proofs.CycleLemmas.{own_ancestor}
 use Rattle.commit_requests.proofs.NumberLemmas.{lists_within}
@@ -50,11 +51,11 @@ add_each-requires g c =
     let read : List (List ℕ) = c.args.held.now in
     let places : List Placed = c.in-Ok-order_of.places.items in
     let numbers : List ℕ = map (λ (place : Placed). place.number) places in
-    let order : AreInOrder old.kind base old.commits read numbers =
+    let order : ParentsComeFirst old.kind base old.commits read numbers =
     in_order old.kind base old.commits c.args.requests.now.asked read c.in-Ok.lists numbers c.requires.closed c.in-Ok.ensures
     c.in-Ok-order_of.ensures.order in
     record {
-      order = subst (λ (ps : List Placed). AreInOrder old.kind base old.commits read (map (λ (place : Placed). place.number) ps))
+      order = subst (λ (ps : List Placed). ParentsComeFirst old.kind base old.commits read (map (λ (place : Placed). place.number) ps))
           (sym c.deref.ensures.value) order;
     }
 

@@ -1,5 +1,6 @@
 use Rattle.std.proofs.Common.{ℕ, List, Contains, rules}
-use Rattle.std.proofs.lemmas.List.Sorted.{All-permutation, Contains-permutation, IsNonDecreasingBy-from_sort_by_key, IsPermutation-map}
+use Rattle.std.proofs.lemmas.List.Sorted.{All-permutation, Contains-permutation, IsNonDecreasingBy-from_sort_by_key}
+use Rattle.std.proofs.lemmas.List.Sorted.{IsPermutation-map}
 use Rattle.commit_requests.specs.Dated.{IsDated}
 use Rattle.commit_requests.specs.declared.order.Placed.{Placed}
 use Rattle.commit_requests.proofs.PlaceLemmas.{numbers_of_places}

@@ -30,15 +30,15 @@ MayRefuseFor kind type id bytes OutOfMemory = BeginsWithLongEntry kind type (Som
 MayRefuseFor kind type id bytes WriteFailed = ⊤
 
 -- why that of the object which was waiting longest is not taken
-abbrev pub MayRefuse : Asked → List ℕ → RequestError → Type 0
-MayRefuse r bytes error = (id : List ℕ) × (slice_get r.asked r.taken ≡ Some id) × MayRefuseFor r.kind r.type id bytes error
+abbrev pub MayRefuseOldest : Asked → List ℕ → RequestError → Type 0
+MayRefuseOldest r bytes error = (id : List ℕ) × (slice_get r.asked r.taken ≡ Some id) × MayRefuseFor r.kind r.type id bytes error
 
 -- that bytes could not be read
-abbrev pub error_of_failure : ReadFailure → RequestError
-error_of_failure failure.Device = Device
-error_of_failure failure.OutOfMemory = OutOfMemory
+abbrev pub request_error_of : ReadFailure → RequestError
+request_error_of failure.Device = Device
+request_error_of failure.OutOfMemory = OutOfMemory
 
 -- why a stream gives no entry of an object
 abbrev pub stream_error_for : List ℕ → StreamError → RequestError
 stream_error_for id (stream.Entry error) = Entry id error
-stream_error_for id (stream.Read failure) = error_of_failure failure
+stream_error_for id (stream.Read failure) = request_error_of failure
