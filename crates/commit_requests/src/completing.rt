@@ -206,7 +206,8 @@ fn told_of<E: Drop>(ids: &[ObjectId], error: CompleteError<E>) -> CompleteError<
 
 /// The id of the object that is missing, if that is the error.
 fn missing_of<E>(error: &CompleteError<E>) -> Option<ObjectId>
-    ensures { MatchOption result ((id : List ℕ) → error.now ≢ CompleteError.Entry id EntryError.Missing)
+    ensures { MatchOption result
+        ((id : List ℕ) → error.now ≢ CompleteError.Entry id EntryError.Missing)
         (λ id. error.now ≡ CompleteError.Entry id EntryError.Missing) }
 {
     match error {

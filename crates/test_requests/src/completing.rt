@@ -47,7 +47,8 @@ fn completed(
     question: &[&str],
     asked: &[&str],
 ) -> Result<(), Error> {
-    let mut requests = Requests::new(alloc, Kind::Sha1, ObjectType::Commit).ok().expect(rt, "memory");
+    let requests = Requests::new(alloc, Kind::Sha1, ObjectType::Commit);
+    let mut requests = requests.ok().expect(rt, "memory");
     let stream = stream_of(rt, alloc, asked);
     let ids = ids_of(rt, alloc, question);
     let mut reader = Pieces { bytes: &stream, most: 7, fails: true };

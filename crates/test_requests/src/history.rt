@@ -158,8 +158,7 @@ pub const ENTRIES: &[(&str, &[u8])] = &[
 /// The ids of a question, and those that are asked for, in order.
 pub type Question = (&'static [&'static str], &'static [&'static str]);
 
-/// A line, a merge, a parent of a parent, an octopus, several at a time, the same twice; a tree as a
-/// parent, a parent that is missing, and ids of the question that are missing.
+/// A line, a merge, a parent of a parent, an octopus, several at a time, and the same twice.
 pub const QUESTIONS: &[Question] = &[
     (&[TIP], &[TIP, CHILD, ROOT]),
     (&[MERGE], &[MERGE, LEFT, RIGHT, ROOT]),
@@ -177,7 +176,8 @@ pub enum Fault {
     Entry(&'static str, EntryError),
 }
 
-/// The ids of a question, those that are asked for, and the fault.
+/// The ids of a question, those that are asked for, and the fault: a tree as a parent, a parent that
+/// is missing, and ids of the question that are missing.
 pub const FAULTS: &[(&[&str], &[&str], Fault)] = &[
     (&[ON_TREE], &[ON_TREE, TREE], Fault::Entry(TREE, EntryError::OtherType)),
     (&[ON_GONE], &[ON_GONE, CHILD, GONE, ROOT], Fault::Entry(GONE, EntryError::Missing)),
