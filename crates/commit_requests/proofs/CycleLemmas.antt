@@ -77,7 +77,8 @@ module _ (kind : Kind) (asked read : List (List ℕ)) (lists : ParentLists) (own
           walk = next.0 ∷ more.0;
           is_walk = more.1;
           first = refl;
-          last = ap (λ (n : ℕ). option_map (object_id_of kind) (slice_get (next.0 ∷ more.0) n)) (one_less (length more.0)) ∙ more.2;
+          last =
+              ap (λ (n : ℕ). option_map (object_id_of kind) (slice_get (next.0 ∷ more.0) n)) (one_less (length more.0)) ∙ more.2;
         };
       }
 

@@ -190,7 +190,8 @@ module _ (base : List ℕ → Option ℕ → Type 0) (top : CommitsOnTop) where
           wanted_needed = All-weaker (Contains wanted) (IsNeeded kind ids read)
               (λ id c. All-contains (IsNeeded kind ids read) wanted id now.wanted_needed c) wants still.none;
           closed = All-weaker (HasSeen asked wanted) (HasSeen after wants)
-              (λ bytes h. (h.0, h.1, All-weaker (IsSeenTo base top asked wanted) (IsSeenTo base top after wants) seen h.0.parents h.2))
+              (λ bytes h.
+              (h.0, h.1, All-weaker (IsSeenTo base top asked wanted) (IsSeenTo base top after wants) seen h.0.parents h.2))
               read now.closed;
           question = All-weaker (IsSeenTo base top asked wanted) (IsSeenTo base top after wants) seen ids now.question;
         } where
@@ -228,7 +229,8 @@ module _ (base : List ℕ → Option ℕ → Type 0) (top : CommitsOnTop) where
         closed = subst (All (HasSeen asked wants)) (sym r.added)
             (All-push (HasSeen asked wants) read r.bytes
             (All-weaker (HasSeen asked wanted) (HasSeen asked wants)
-            (λ bytes h. (h.0, h.1, All-weaker (IsSeenTo base top asked wanted) (IsSeenTo base top asked wants) seen h.0.parents h.2))
+            (λ bytes h.
+            (h.0, h.1, All-weaker (IsSeenTo base top asked wanted) (IsSeenTo base top asked wants) seen h.0.parents h.2))
             read now.closed)
             (r.said, r.says, r.parents.seen));
         question = All-weaker (IsSeenTo base top asked wanted) (IsSeenTo base top asked wants) seen ids now.question;
@@ -268,7 +270,8 @@ module _ (base : List ℕ → Option ℕ → Type 0) (top : CommitsOnTop) where
         own = sym (now.own ∙ take_all (length read) asked all);
         closed = All-weaker (HasSeen asked []) (λ bytes. (said : Said) × Says kind bytes said
             × All (IsThereOrAsked base top asked) said.parents)
-            (λ bytes h. (h.0, h.1, All-weaker (IsSeenTo base top asked []) (IsThereOrAsked base top asked) there_or_asked h.0.parents h.2))
+            (λ bytes h.
+            (h.0, h.1, All-weaker (IsSeenTo base top asked []) (IsThereOrAsked base top asked) there_or_asked h.0.parents h.2))
             read now.closed;
       }
 
@@ -334,7 +337,8 @@ still_step start asked after wanted rest id count most still first may done = re
 
 pub still_all : (asked wanted : List (List ℕ)) → StillWants asked wanted wanted
 still_all asked wanted = record {
-  each = All-weaker (Contains wanted) (λ q. Contains asked q ⊎ Contains wanted q) (λ q c. inr c) wanted (All-contains_itself wanted);
+  each = All-weaker (Contains wanted) (λ q. Contains asked q ⊎ Contains wanted q) (λ q c. inr c) wanted
+      (All-contains_itself wanted);
   none = All-contains_itself wanted;
 }
 

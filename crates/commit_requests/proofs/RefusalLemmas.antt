@@ -24,7 +24,8 @@ use Rattle.commit_requests.specs.declared.error.CompleteError.TheVariants as ref
 use Rattle.commit_requests.proofs.ListSteps.{contains_from_get, get_from_contains, get_mapped}
 
 -- a request that is refused
-pub request_refused : {E : Type 0} (kind : Kind) (may_fail : E → Type 0) (r : Asked) (known : Option (List ℕ)) (error : RequestError)
+pub request_refused : {E : Type 0} (kind : Kind) (may_fail : E → Type 0) (r : Asked) (known : Option (List ℕ))
+    (error : RequestError)
     → r.type ≡ Commit → r.kind ≡ kind → IfSome known (λ bytes. MayRefuse r bytes error)
     → IsTakeRefusal kind may_fail r.asked r.taken known (complete_error {E = E} error)
 request_refused kind may_fail r None (request.Entry id error) type same may = tt
@@ -40,7 +41,8 @@ request_refused kind may_fail r known request.WriteFailed type same may = tt
 
 module _ {E : Type 0} (kind : Kind) (may_fail : E → Type 0) (top : CommitsOnTop) (asked : List (List ℕ)) (known : Option (List ℕ))
   where
-    pub want_refused : (error : CompleteError E) → IsWantRefusal may_fail error → IsGatherRefusal kind may_fail top asked known error
+    pub want_refused : (error : CompleteError E) → IsWantRefusal may_fail error
+        → IsGatherRefusal kind may_fail top asked known error
     want_refused (refusal.Unknown number) r = r
     want_refused (refusal.Entry id error) r = absurd r
     want_refused (refusal.Unreadable id) r = absurd r
@@ -111,7 +113,8 @@ module _ {E : Type 0} (kind : Kind) (may_fail : E → Type 0) (top : CommitsOnTo
 
     module _ (base : List ℕ → Option ℕ → Type 0) (new : CommitsOnTop) (ids : List (List ℕ)) where
       as_it_is : (error : CompleteError E) → ((id : List ℕ) → error ≡ refusal.Entry id Missing → ¬ Contains ids id)
-          → IsGatherRefusal kind may_fail top asked known error → IsCompleteRefusal kind base may_fail top new ids asked known error
+          → IsGatherRefusal kind may_fail top asked known error
+          → IsCompleteRefusal kind base may_fail top new ids asked known error
       as_it_is (refusal.Unknown number) apart r = absurd r
       as_it_is (refusal.Entry id error) apart r =
           (λ missing. apart id (ap (λ (e : EntryError). refusal.Entry id e) missing), r)

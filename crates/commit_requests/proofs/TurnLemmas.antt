@@ -168,7 +168,8 @@ module _ (kind : Kind) (base : List ℕ → Option ℕ → Type 0) where
         added_refused may_fail (refusal.Source error) r = r
 
   module _ (top : CommitsOnTop) (asked read : List (List ℕ)) (lists : ParentLists) (numbers : List ℕ)
-      (are : AreClosed kind base top asked read) (listed : AreListsOf kind asked read lists) (order : ComeAfterParents lists numbers)
+      (are : AreClosed kind base top asked read) (listed : AreListsOf kind asked read lists)
+      (order : ComeAfterParents lists numbers)
     where
       contents_at : (q : ℕ) (id : List ℕ) → slice_get asked q ≡ Some id
           → (next : List ℕ) × (slice_get read q ≡ Some next) × (object_id_of kind next ≡ id)
@@ -198,7 +199,8 @@ module _ (kind : Kind) (base : List ℕ → Option ℕ → Type 0) where
       } where
         early : (k n : ℕ) (bytes id : List ℕ) (said : Said) → slice_get numbers k ≡ Some n → slice_get read n ≡ Some bytes
             → Says kind bytes said → Contains said.parents id → Contains asked id
-            → (q : ℕ) × (next : List ℕ) × Contains (take k numbers) q × (slice_get read q ≡ Some next) × (id ≡ object_id_of kind next)
+            → (q : ℕ) × (next : List ℕ) × Contains (take k numbers) q × (slice_get read q ≡ Some next)
+            × (id ≡ object_id_of kind next)
         early k n bytes id said at held says contained a =
             let has = listed.each n bytes held in
             let same : has.0 ≡ said = says_one kind bytes has.0 said has.1 says in

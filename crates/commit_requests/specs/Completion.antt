@@ -39,8 +39,8 @@ HaveNoRoom kind old new asked =
     ⊎ ((bytes : List ℕ) × (said : Said) × Contains asked (object_id_of kind bytes) × Says kind bytes said
     × IsFull new (length said.parents))
 
--- why commits are not all there, where these ids were asked for, and the reader has these bytes, where they are known. Any read or
--- write may fail, and memory may run out at any time
+-- why commits are not all there, where these ids were asked for, and the reader has these bytes, where they are known. Any
+-- read or write may fail, and memory may run out at any time
 abbrev pub IsCompleteRefusal : {E : Type 0} → Kind → (List ℕ → Option ℕ → Type 0) → (E → Type 0) → CommitsOnTop → CommitsOnTop
     → List (List ℕ) → List (List ℕ) → Option (List ℕ) → CompleteError E → Type 0
 IsCompleteRefusal kind base may_fail old new ids asked known (refusal.Unknown number) =

@@ -107,7 +107,8 @@ pub record ReadsCommit (kind : Kind) (base : List ℕ → Option ℕ → Type 0)
   pub says : Says kind bytes said
   pub parents : WantsMore base top asked wanted wants said.parents
 
--- why no commit was read, where the next to be taken is that with this number, and the reader has these bytes, where they are known
+-- why no commit was read, where the next to be taken is that with this number, and the reader has these bytes, where they are
+-- known
 abbrev pub IsTakeRefusal : {E : Type 0} → Kind → (E → Type 0) → List (List ℕ) → ℕ → Option (List ℕ) → CompleteError E → Type 0
 IsTakeRefusal kind may_fail asked number known (refusal.Unknown n) = ⊥
 IsTakeRefusal kind may_fail asked number known (refusal.Entry id error) =
@@ -123,8 +124,8 @@ IsTakeRefusal kind may_fail asked number known refusal.WriteFailed = ⊤
 IsTakeRefusal kind may_fail asked number known (refusal.Lost id) = ⊥
 IsTakeRefusal kind may_fail asked number known (refusal.Source error) = may_fail error
 
--- What was read of the commits that were asked for, and what is wanted: each id of the question, and each parent that was read, is
--- there, or was asked for, or is wanted.
+-- What was read of the commits that were asked for, and what is wanted: each id of the question, and each parent that was read,
+-- is there, or was asked for, or is wanted.
 pub record IsGathering (kind : Kind) (base : List ℕ → Option ℕ → Type 0) (top : CommitsOnTop) (ids asked read wanted
     : List (List ℕ)) : Type 0 where
   pub own : map (object_id_of kind) read ≡ take (length read) asked
@@ -136,7 +137,8 @@ pub record IsGathering (kind : Kind) (base : List ℕ → Option ℕ → Type 0)
   pub question : All (IsSeenTo base top asked wanted) ids
 
 -- All commits that were asked for were read, and each of their parents is there or was asked for.
-pub record AreClosed (kind : Kind) (base : List ℕ → Option ℕ → Type 0) (top : CommitsOnTop) (asked read : List (List ℕ)) : Type 0 where
+pub record AreClosed (kind : Kind) (base : List ℕ → Option ℕ → Type 0) (top : CommitsOnTop) (asked read : List (List ℕ))
+    : Type 0 where
   pub own : asked ≡ map (object_id_of kind) read
   pub closed : All (λ bytes. (said : Said) × Says kind bytes said × All (IsThereOrAsked base top asked) said.parents) read
 

@@ -43,7 +43,8 @@ pub record ComeAfterParents (lists : ParentLists) (numbers : List ℕ) : Type 0 
 
 -- the commit with this number is there
 abbrev pub IsNumberThere : Kind → (List ℕ → Option ℕ → Type 0) → CommitsOnTop → List (List ℕ) → ℕ → Type 0
-IsNumberThere kind base top read n = (bytes : List ℕ) × (slice_get read n ≡ Some bytes) × IsThere base top (object_id_of kind bytes)
+IsNumberThere kind base top read n =
+    (bytes : List ℕ) × (slice_get read n ≡ Some bytes) × IsThere base top (object_id_of kind bytes)
 
 -- Each parent of a commit is there, or is a commit that comes before it.
 pub record ParentsComeFirst (kind : Kind) (base : List ℕ → Option ℕ → Type 0) (top : CommitsOnTop) (read : List (List ℕ))

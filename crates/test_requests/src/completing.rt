@@ -51,7 +51,11 @@ fn completed(
     let mut requests = requests.ok().expect(rt, "memory");
     let stream = stream_of(rt, alloc, asked);
     let ids = ids_of(rt, alloc, question);
-    let mut reader = Pieces { bytes: &stream, most: 7, fails: true };
+    let mut reader = Pieces {
+        bytes: &stream,
+        most: 7,
+        fails: true,
+    };
     let mut writer = Flushed::new(alloc);
     let result = complete(alloc, newer, &mut requests, &ids, &mut reader, &mut writer);
     let mut lines = writer.bytes.as_slice();

@@ -137,10 +137,7 @@ pub const ENTRIES: &[(&str, &[u8])] = &[
         ontree\n\
         \n",
     ),
-    (
-        GONE,
-        b"1111111111111111111111111111111111111111 missing\n",
-    ),
+    (GONE, b"1111111111111111111111111111111111111111 missing\n"),
     (
         ON_GONE,
         b"90623c10f3da87a42d0f095d58ece3e974fcdc2a commit 221\n\
@@ -176,11 +173,23 @@ pub enum Fault {
     Entry(&'static str, EntryError),
 }
 
-/// The ids of a question, those that are asked for, and the fault: a tree as a parent, a parent that
-/// is missing, and ids of the question that are missing.
+/// The ids of a question, those that are asked for, and the fault: a tree as a parent, a parent
+/// that is missing, and ids of the question that are missing.
 pub const FAULTS: &[(&[&str], &[&str], Fault)] = &[
-    (&[ON_TREE], &[ON_TREE, TREE], Fault::Entry(TREE, EntryError::OtherType)),
-    (&[ON_GONE], &[ON_GONE, CHILD, GONE, ROOT], Fault::Entry(GONE, EntryError::Missing)),
+    (
+        &[ON_TREE],
+        &[ON_TREE, TREE],
+        Fault::Entry(TREE, EntryError::OtherType),
+    ),
+    (
+        &[ON_GONE],
+        &[ON_GONE, CHILD, GONE, ROOT],
+        Fault::Entry(GONE, EntryError::Missing),
+    ),
     (&[GONE, ROOT], &[GONE, ROOT], Fault::Unknown(0)),
-    (&[ROOT, ON_GONE, GONE], &[ROOT, ON_GONE, GONE, CHILD], Fault::Unknown(2)),
+    (
+        &[ROOT, ON_GONE, GONE],
+        &[ROOT, ON_GONE, GONE, CHILD],
+        Fault::Unknown(2),
+    ),
 ];

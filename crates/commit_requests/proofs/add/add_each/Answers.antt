@@ -97,14 +97,16 @@ returns-in-Err-clause-refused g c =
     let n : ℕ = (slice_index_or places k no_place).number in
     let bytes : List ℕ = c.of.result.now in
     let refused : IsOneRefusal old.kind (finds (facts old.base)) (may_fail (known old.base)) mid.commits bytes c.in-Err.error =
-    subst (λ (kind : Kind). IsOneRefusal kind (finds (facts old.base)) (may_fail (known old.base)) mid.commits bytes c.in-Err.error)
+    subst
+    (λ (kind : Kind). IsOneRefusal kind (finds (facts old.base)) (may_fail (known old.base)) mid.commits bytes c.in-Err.error)
     c.loop-place.invariant.kind
     (subst (λ (f : g.S.Base.Facts). IsOneRefusal mid.kind (finds f) (may_fail (known old.base)) mid.commits bytes c.in-Err.error)
     c.loop-place.invariant.facts
     (subst
     (λ (x : g.S.CommitSource.Known). IsOneRefusal mid.kind (finds (facts mid.base)) (may_fail x) mid.commits bytes c.in-Err.error)
     c.loop-place.invariant.known c.in-Err.ensures.refused)) in
-    subst (λ (t : CommitsOnTop). IsTurnRefusal old.kind (finds (facts old.base)) (may_fail (known old.base)) t read c.in-Err.error)
+    subst
+    (λ (t : CommitsOnTop). IsTurnRefusal old.kind (finds (facts old.base)) (may_fail (known old.base)) t read c.in-Err.error)
     (sym c.in-Err.ensures.same)
     (added_refused old.kind (finds (facts old.base)) old.commits read (numbers_of_places places) k mid.commits
     c.loop-place.invariant.added n bytes (number_at_place places k no_place lt) c.of.ensures c.requires.order

@@ -42,7 +42,8 @@ order_of-requires-clause-few g c =
 
 pub order_of-requires-clause-within : goal.order_of-requires-clause-within
 order_of-requires-clause-within g c =
-    lists_within c.args.newer.now.kind c.args.requests.now.asked c.args.held.now c.in-Ok.lists c.requires.closed.own c.in-Ok.ensures
+    lists_within c.args.newer.now.kind c.args.requests.now.asked c.args.held.now c.in-Ok.lists c.requires.closed.own
+    c.in-Ok.ensures
 
 pub add_each-requires : goal.add_each-requires
 add_each-requires g c =
@@ -55,7 +56,8 @@ add_each-requires g c =
     in_order old.kind base old.commits c.args.requests.now.asked read c.in-Ok.lists numbers c.requires.closed c.in-Ok.ensures
     c.in-Ok-order_of.ensures.order in
     record {
-      order = subst (λ (ps : List Placed). ParentsComeFirst old.kind base old.commits read (map (λ (place : Placed). place.number) ps))
+      order = subst
+          (λ (ps : List Placed). ParentsComeFirst old.kind base old.commits read (map (λ (place : Placed). place.number) ps))
           (sym c.deref.ensures.value) order;
     }
 

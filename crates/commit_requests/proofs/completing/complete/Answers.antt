@@ -85,7 +85,8 @@ returns-in-Ok-clause-written g c = on_ok_weaker c.add_all.result (λ there. c.in
 
 pub returns-in-Ok-clause-read : goal.returns-in-Ok-clause-read
 returns-in-Ok-clause-read g c =
-    on_ok_weaker c.add_all.result (λ there. (c.in-Ok.held, c.in-Ok.ensures.closed.own, c.in-Ok.ensures.read)) c.add_all.ensures.all
+    on_ok_weaker c.add_all.result (λ there. (c.in-Ok.held, c.in-Ok.ensures.closed.own, c.in-Ok.ensures.read))
+    c.add_all.ensures.all
 
 pub returns-in-Ok-clause-refused : goal.returns-in-Ok-clause-refused
 returns-in-Ok-clause-refused g c =
@@ -101,14 +102,17 @@ returns-in-Ok-clause-refused g c =
     let bytes : Option (List ℕ) = prepend_known c.args.requests.now.ahead (g.R.Read.remaining c.args.reader.now) in
     IfErr-weaker c.add_all.result _ _
     (λ error refused.
-    subst (λ (k : Kind). IsCompleteRefusal k (finds (facts old.base)) (may_fail (known old.base)) old.commits new ids asked bytes error)
+    subst
+    (λ (k : Kind). IsCompleteRefusal k (finds (facts old.base)) (may_fail (known old.base)) old.commits new ids asked bytes
+    error)
     c.gather.ensures.kind
     (subst
-    (λ (f : g.S.Base.Facts). IsCompleteRefusal mid.kind (finds f) (may_fail (known old.base)) old.commits new ids asked bytes error)
+    (λ (f : g.S.Base.Facts). IsCompleteRefusal mid.kind (finds f) (may_fail (known old.base)) old.commits new ids asked bytes
+    error)
     c.gather.ensures.facts
     (subst
-    (λ (x : g.S.CommitSource.Known). IsCompleteRefusal mid.kind (finds (facts mid.base)) (may_fail x) old.commits new ids asked bytes
-    error)
+    (λ (x : g.S.CommitSource.Known). IsCompleteRefusal mid.kind (finds (facts mid.base)) (may_fail x) old.commits new ids asked
+    bytes error)
     c.gather.ensures.known
     (subst
     (λ (t : CommitsOnTop). IsCompleteRefusal mid.kind (finds (facts mid.base)) (may_fail (known mid.base)) t new ids asked bytes

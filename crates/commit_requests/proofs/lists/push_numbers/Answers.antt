@@ -32,5 +32,7 @@ pub returns : goal.returns
 returns c =
     let none : c.loop-id.id-iterator ≡ [] = search rules in
     let all : c.loop-id.yielded ≡ c.args.parents =
-    sym (append_nil c.loop-id.yielded) ∙ (ap (λ (xs : List (List ℕ)). c.loop-id.yielded ++ xs) (sym none) ∙ c.loop-id.invariant.left) in
-    subst (λ (xs : List (List ℕ)). AreNumbersIn c.args.requests.now.asked xs c.loop-id.numbers.items) all c.loop-id.invariant.numbers
+    sym (append_nil c.loop-id.yielded)
+    ∙ (ap (λ (xs : List (List ℕ)). c.loop-id.yielded ++ xs) (sym none) ∙ c.loop-id.invariant.left) in
+    subst (λ (xs : List (List ℕ)). AreNumbersIn c.args.requests.now.asked xs c.loop-id.numbers.items) all
+    c.loop-id.invariant.numbers

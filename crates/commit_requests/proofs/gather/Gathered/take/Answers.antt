@@ -52,7 +52,8 @@ returns-in-Ok-push-clause-read g c =
     commit_id old.kind r.kind r.type c.in-Ok.id contents c.requires.commits c.requires.kind taken.own in
     record {
       bytes = contents;
-      added = c.in-Ok-push.ensures.ok ∙ ap (λ (xs : List (List ℕ)). xs ++ c.contents-2.result.now ∷ []) c.want_parents.ensures.held
+      added = c.in-Ok-push.ensures.ok
+          ∙ ap (λ (xs : List (List ℕ)). xs ++ c.contents-2.result.now ∷ []) c.want_parents.ensures.held
           ∙ ap (λ (x : List ℕ). c.args.self.now.held ++ x ∷ []) c.contents-2.ensures;
       own = ap (slice_get r.asked) (sym c.requires.taken) ∙ taken.oldest ∙ ap (λ (x : List ℕ). Some x) own;
       said = c.in-Ok-parse.commit;
@@ -77,5 +78,5 @@ returns-in-Ok-push-clause-bytes g c =
     ∙ ap (λ (x : List ℕ). held ++ x ∷ []) c.contents-2.ensures in
     λ start before.
     entry_next old.kind r.type start (prepend_known r.ahead (g.R.Read.remaining c.args.reader.now))
-    (prepend_known next.ahead (g.R.Read.remaining c.take_next.new.reader)) held more c.in-Ok.id next.contents c.requires.commits own
-    added before c.in-Ok.ensures.bytes
+    (prepend_known next.ahead (g.R.Read.remaining c.take_next.new.reader)) held more c.in-Ok.id next.contents
+    c.requires.commits own added before c.in-Ok.ensures.bytes
