@@ -11,7 +11,7 @@ use Rattle.object_stream.specs.declared.error.EntryError.TheVariants.{Missing}
 use Rattle.object_stream.specs.declared.object_type.ObjectType.{ObjectType}
 use Rattle.object_stream.specs.declared.object_type.ObjectType.TheVariants.{Commit}
 use Rattle.object_requests.specs.Asked.{Asked}
-use Rattle.object_requests.specs.Taking.{MayRefuse}
+use Rattle.object_requests.specs.TakenEntry.{MayRefuseOldest}
 use Rattle.object_requests.specs.declared.error.RequestError.{RequestError}
 use Rattle.object_requests.specs.declared.error.RequestError.TheVariants as request
 use Rattle.newer_commits.specs.CommitsOnTop.{CommitsOnTop, end_of_top}
@@ -26,7 +26,7 @@ use Rattle.commit_requests.proofs.ListSteps.{contains_from_get, get_from_contain
 -- a request that is refused
 pub request_refused : {E : Type 0} (kind : Kind) (may_fail : E → Type 0) (r : Asked) (known : Option (List ℕ))
     (error : RequestError)
-    → r.type ≡ Commit → r.kind ≡ kind → IfSome known (λ bytes. MayRefuse r bytes error)
+    → r.type ≡ Commit → r.kind ≡ kind → IfSome known (λ bytes. MayRefuseOldest r bytes error)
     → IsTakeRefusal kind may_fail r.asked r.taken known (complete_error {E = E} error)
 request_refused kind may_fail r None (request.Entry id error) type same may = tt
 request_refused kind may_fail r (Some bytes) (request.Entry id error) type same may = (
