@@ -1,18 +1,16 @@
 -- A cycle of numbers is a cycle of commits.
-use Rattle.std.proofs.Common.{◌≡◌, ◌⊎◌, ℕ, zero, suc, ◌+◌, ◌-◌, ◌<◌, ◌≤◌, List, [], ◌∷◌, ◌++◌, length, map, slice_get, option_map}
-use Rattle.std.proofs.Common.{All, Contains, Option, Some, None, refl, sym, ap, ◌∙◌, subst, arith}
-use Rattle.std.proofs.lemmas.List.{length-map}
+use Rattle.std.proofs.Common.{◌≡◌, ℕ, suc, ◌-◌, ◌<◌, ◌≤◌, List, [], ◌∷◌, length, map, slice_get, option_map}
+use Rattle.std.proofs.Common.{Contains, Some, refl, sym, ap, ◌∙◌, subst, arith}
 use Rattle.std.proofs.lemmas.List.Elements.{All-contains}
 use Rattle.std.proofs.lemmas.Option.{same_Some, slice_get-get_or}
 use Rattle.std.specs.Prelude.{slice_index_or}
 use Rattle.gix_hash_core.specs.declared.kind.Kind.{Kind}
 use Rattle.commit_objects.specs.Object.{object_id_of}
-use Rattle.graph_walks.specs.History.{Node, IsParent, parents_at}
-use Rattle.graph_walks.specs.Walks.{IsProperAncestor}
+use Rattle.graph_walks.specs.History.{Node, IsParent}
 use Rattle.graph_walks.proofs.WalkPathLemmas.{Path, path_from_between}
 use Rattle.graph_objects.specs.CommitWalks.{IsCommitWalk, NamesParent}
 use Rattle.graph_levels.specs.OnTop.{IsLevelsRefusal}
-use Rattle.graph_levels.specs.ParentLists.{commit_count, parent_list}
+use Rattle.graph_levels.specs.ParentLists.{parent_list}
 use Rattle.graph_levels.specs.declared.level.LevelsError.TheVariants.{Cycle}
 use Rattle.graph_levels.specs.declared.lists.ParentLists.{ParentLists}
 use Rattle.commit_requests.specs.Completion.{IsOwnAncestor}

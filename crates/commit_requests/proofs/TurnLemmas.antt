@@ -1,7 +1,7 @@
 -- Commits that are added one after another.
-use Rattle.std.proofs.Common.{◌≡◌, ◌⊎◌, ℕ, zero, suc, ◌+◌, ◌<◌, ◌≤◌, List, [], ◌∷◌, ◌++◌, length, map, take, slice_get}
-use Rattle.std.proofs.Common.{All, Contains, Option, Some, None, refl, sym, ap, ◌∙◌, subst, inl, inr, ⊎_elim, arith}
-use Rattle.std.proofs.lemmas.List.{length-append, length-map, map-append}
+use Rattle.std.proofs.Common.{◌≡◌, ◌⊎◌, ℕ, zero, suc, ◌+◌, ◌<◌, List, [], ◌∷◌, ◌++◌, length, map, take, slice_get}
+use Rattle.std.proofs.Common.{All, Contains, Option, Some, None, refl, sym, ap, ◌∙◌, subst, inl, inr, ⊎_elim}
+use Rattle.std.proofs.lemmas.List.{map-append}
 use Rattle.std.proofs.lemmas.List.Elements.{All-contains, All-nil, All-push, All-weaker}
 use Rattle.std.specs.Prelude.{slice_index_or}
 use Rattle.std.proofs.lemmas.Option.{none-some, same_Some, slice_get-get_or, slice_get_within}
@@ -12,14 +12,14 @@ use Rattle.commit_objects.proofs.ParentLemmas.{says_one}
 use Rattle.graph_levels.specs.ParentLists.{commit_count, parent_list}
 use Rattle.graph_levels.specs.declared.lists.ParentLists.{ParentLists}
 use Rattle.newer_commits.specs.Adding.{AddsCommit}
-use Rattle.newer_commits.specs.CommitsOnTop.{CommitsOnTop, NewerCommit, StandsOnTop, end_of_top, ids_on_top}
+use Rattle.newer_commits.specs.CommitsOnTop.{CommitsOnTop, NewerCommit, StandsOnTop, ids_on_top}
 use Rattle.newer_commits.specs.Finding.{Finds}
 use Rattle.newer_commits.specs.Adding.{AreThere, IsAddRefusal}
 use Rattle.newer_commits.specs.declared.error.AddError.{AddError}
 use Rattle.newer_commits.specs.declared.error.AddError.TheVariants as add
 use Rattle.commit_requests.specs.Completion.{AddsInTurn, HaveIdsAmong}
 use Rattle.commit_requests.specs.Gathering.{AreClosed, IsThere, IsThereOrAsked}
-use Rattle.commit_requests.specs.Placing.{AddsOrHas, ParentsComeFirst, AreListsOf, ComeAfterParents, HasNumbers, IsNumberThere}
+use Rattle.commit_requests.specs.Placing.{AddsOrHas, ParentsComeFirst, AreListsOf, ComeAfterParents, IsNumberThere}
 use Rattle.commit_requests.specs.Placing.{IsLackingParent, IsOneRefusal, IsTurnRefusal}
 use Rattle.commit_requests.specs.declared.error.CompleteError.{CompleteError}
 use Rattle.commit_requests.specs.declared.error.CompleteError.TheVariants as refusal

@@ -1,4 +1,4 @@
-use Rattle.std.proofs.Common.{◌≡◌, ◌<◌, ◌+◌, ◌∙◌, ℕ, List, All, Some, Contains, length, map, slice_get, sym, ap, subst, arith}
+use Rattle.std.proofs.Common.{◌≡◌, ◌<◌, ◌∙◌, ℕ, List, All, Some, length, slice_get, sym, subst, arith}
 use Rattle.std.proofs.Common.{take}
 use Rattle.std.specs.Prelude.{slice_index_or}
 use Rattle.std.proofs.lemmas.List.{length-map, take_all}
@@ -11,7 +11,7 @@ use Rattle.commit_requests.specs.Placing.{AddsOrHas, IsNumberThere, IsOneRefusal
 use Rattle.commit_requests.specs.declared.order.Placed.{Placed}
 use Rattle.commit_requests.proofs.ListSteps.{contains_from_get, get_mapped}
 use Rattle.commit_requests.proofs.PlaceLemmas.{numbers_of_places}
-use Rattle.commit_requests.proofs.TurnLemmas.{AreAdded, added_more, added_refused}
+use Rattle.commit_requests.proofs.TurnLemmas.{added_more, added_refused}
 use Rattle.commit_requests.proofs.add.add_each.Goals as goal
 
 no_place : Placed

@@ -1,15 +1,13 @@
-use Rattle.std.proofs.Common.{◌≡◌, ◌+◌, ◌<◌, ◌∙◌, [], ℕ, List, All, Contains, Option, arith, ap, length, map, refl, slice_get}
+use Rattle.std.proofs.Common.{ℕ, List, All, arith, ap, length, map}
 use Rattle.std.proofs.Common.{subst, sym}
 use Rattle.std.proofs.lemmas.List.{length-map}
-use Rattle.std.proofs.lemmas.List.Elements.{All-contains_itself, All-nil, All-weaker}
+use Rattle.std.proofs.lemmas.List.Elements.{All-contains_itself, All-weaker}
 use Rattle.std.proofs.lemmas.Result.{IfErr-weaker, on_ok_weaker}
 use Rattle.commit_objects.specs.CommitContents.{Said, Says}
 use Rattle.commit_objects.specs.Object.{object_id_of}
-use Rattle.graph_levels.specs.OnTop.{IsLevelsRefusal}
-use Rattle.graph_levels.specs.ParentLists.{commit_count, parent_list}
 use Rattle.commit_requests.specs.Completion.{IsOwnAncestor}
 use Rattle.commit_requests.specs.Gathering.{IsThereOrAsked}
-use Rattle.commit_requests.specs.Placing.{ParentsComeFirst, ComeAfterParents, IsNumberThere}
+use Rattle.commit_requests.specs.Placing.{ParentsComeFirst, IsNumberThere}
 use Rattle.commit_requests.specs.declared.order.Placed.{Placed}
 use Rattle.commit_requests.proofs.CycleLemmas.{own_ancestor}
 use Rattle.commit_requests.proofs.NumberLemmas.{lists_within}

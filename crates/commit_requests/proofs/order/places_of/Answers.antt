@@ -1,9 +1,8 @@
-use Rattle.std.proofs.Common.{◌≡◌, ◌+◌, ◌<◌, ◌++◌, ◌∷◌, [], ℕ, List, All, Contains, length, sym, subst, refl, arith}
-use Rattle.std.proofs.lemmas.List.{get_or_default}
+use Rattle.std.proofs.Common.{◌≡◌, ◌<◌, ◌++◌, ◌∷◌, [], ℕ, List, Contains, length, sym, subst, refl, arith}
 use Rattle.std.proofs.lemmas.List.Elements.{All-same}
-use Rattle.graph_levels.specs.OnTop.{level_at, no_level}
+use Rattle.graph_levels.specs.OnTop.{level_at}
 use Rattle.graph_levels.specs.declared.level.Level.{Level}
-use Rattle.commit_requests.specs.Dated.{AreNumbered, IsDated}
+use Rattle.commit_requests.specs.Dated.{IsDated}
 use Rattle.commit_requests.specs.declared.order.Placed.{Placed}
 use Rattle.commit_requests.proofs.PlaceLemmas.{dated_more, every_more, numbers_of_places}
 use Rattle.commit_requests.proofs.order.places_of.Goals as goal

@@ -1,4 +1,4 @@
-use Rattle.std.proofs.Common.{◌≡◌, ◌<◌, All, Contains, map, ℕ, length}
+use Rattle.std.proofs.Common.{◌<◌, All, Contains, map, ℕ}
 use Rattle.commit_requests.specs.Dated.{IsDated}
 use Rattle.commit_requests.specs.declared.order.Placed.{Placed}
 use Rattle.commit_requests.proofs.order.places_of.Given as goal

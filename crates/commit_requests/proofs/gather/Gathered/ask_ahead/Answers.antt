@@ -2,7 +2,7 @@ use Rattle.std.proofs.Common.{◌≡◌, ◌+◌, ◌≤◌, ◌∷◌, ◌∙�
 use Rattle.std.proofs.lemmas.List.{length-append}
 use Rattle.std.proofs.lemmas.List.Elements.{All-head}
 use Rattle.object_requests.specs.Asked.{Asked}
-use Rattle.commit_requests.proofs.GatherLemmas.{asks_none, asks_step, count_all, few_step, one_refused, still_all, still_step}
+use Rattle.commit_requests.proofs.GatherLemmas.{asks_none, asks_step, count_all, few_step, still_all, still_step}
 use Rattle.commit_requests.proofs.gather.Gathered.ask_ahead.Goals as goal
 
 pub loop-self-init : goal.loop-self-init

@@ -1,4 +1,4 @@
-use Rattle.std.proofs.Common.{◌≡◌, ◌∙◌, ◌∷◌, ◌+◌, ◌<◌, [], ℕ, List, Some, ap, arith, length, slice_get, subst, sym, take}
+use Rattle.std.proofs.Common.{◌≡◌, ◌∙◌, ◌∷◌, ◌<◌, [], ℕ, List, Some, ap, arith, length, slice_get, subst, sym, take}
 use Rattle.std.proofs.lemmas.Option.{slice_get-get_or}
 use Rattle.newer_commits.specs.CommitsOnTop.{CommitsOnTop}
 use Rattle.commit_requests.specs.Gathering.{WantsMore}
