@@ -1,5 +1,6 @@
 //! Commits that are asked for until none is lacking.
 
+use crate::asking::id_of;
 use crate::fixtures::{Flushed, Pieces};
 use crate::history::{ENTRIES, FAULTS, Fault, QUESTIONS};
 use commit_requests::{CompleteError, complete};
@@ -20,8 +21,7 @@ type Error = CompleteError<AllocError>;
 fn ids_of(rt: &impl Abort, alloc: Global, digits: &[&str]) -> Vec<ObjectId> {
     let mut ids = Vec::new(alloc);
     for each in digits {
-        let id = ObjectId::from_hex(each.as_bytes()).ok().expect(rt, "an id");
-        ids.push(id).ok().expect(rt, "memory");
+        ids.push(id_of(rt, each)).ok().expect(rt, "memory");
     }
     ids
 }
@@ -47,7 +47,7 @@ fn completed(
     question: &[&str],
     asked: &[&str],
 ) -> Result<(), Error> {
-    let requests = Requests::new(alloc, Kind::Sha1, ObjectType::Commit);
+    let requests = Requests::new(alloc, newer.kind, ObjectType::Commit);
     let mut requests = requests.ok().expect(rt, "memory");
     let stream = stream_of(rt, alloc, asked);
     let ids = ids_of(rt, alloc, question);
@@ -95,9 +95,7 @@ fn faults_are_told(rt: HostRuntime) {
         let result = completed(&rt, alloc, &mut newer, question, asked);
         let told = match fault {
             Fault::Unknown(number) => CompleteError::Unknown(*number),
-            Fault::Entry(digits, error) => {
-                CompleteError::Entry(ids_of(&rt, alloc, &[*digits])[0], *error)
-            }
+            Fault::Entry(digits, error) => { CompleteError::Entry(id_of(&rt, digits), *error) }
         };
         assert!(rt; result == Err(told));
         assert!(rt; newer.num_newer() == 0);
