@@ -15,7 +15,7 @@ use Rattle.std.proofs.lemmas.Option.{same_Some, none-some, get_or_from_slice_get
 use Rattle.std.proofs.lemmas.List.{length-append}
 use Rattle.std.proofs.lemmas.List.Elements.{Contains-push_cases}
 use Rattle.object_requests.specs.Asked.{AreDistinct}
-use Rattle.object_requests.specs.Kept.{AreKept, AreNumbersOf}
+use Rattle.object_requests.specs.Kept.{AreKept, AreRequestNumbers}
 
 get_pushed : {X : Type 0} (xs : List X) (x : X) → slice_get (xs ++ x ∷ []) (length xs) ≡ Some x
 get_pushed [] x = refl
@@ -60,7 +60,7 @@ distinct_pushed ids id distinct absent i j q one other =
     (push_cases ids id i q one)
 
 -- the map of numbers, with one more
-module _ (numbers after : tree.BTreeMap (List ℕ) ℕ) (ids : List (List ℕ)) (id : List ℕ) (right : AreNumbersOf numbers ids)
+module _ (numbers after : tree.BTreeMap (List ℕ) ℕ) (ids : List (List ℕ)) (id : List ℕ) (right : AreRequestNumbers numbers ids)
     (updates : tree.Updates (slice_cmp nat_cmp) numbers after id (Some (length ids))) where
   abbrev IsTold : List ℕ → Option ℕ → Type 0
   IsTold q told = MatchOption told (¬ Contains (ids ++ id ∷ []) q) (λ i. slice_get (ids ++ id ∷ []) i ≡ Some q)
@@ -77,7 +77,7 @@ module _ (numbers after : tree.BTreeMap (List ℕ) ℕ) (ids : List (List ℕ)) 
       (Contains-push_cases ids id q contains)
   at_others q apart (Some i) told = get_old ids (id ∷ []) i q told
 
-  numbers_pushed : AreNumbersOf after (ids ++ id ∷ [])
+  numbers_pushed : AreRequestNumbers after (ids ++ id ∷ [])
   numbers_pushed q =
       ⊎_elim
       (λ (here : tree.is_at (slice_cmp nat_cmp id) q ≡ true).

@@ -7,8 +7,8 @@ use Rattle.std.specs.BTreeMap as tree
 use Rattle.object_requests.specs.Asked.{AreDistinct, most_waiting}
 
 -- the map has the number of each id, and of no other
-abbrev pub AreNumbersOf : tree.BTreeMap (List ℕ) ℕ → List (List ℕ) → Type 0
-AreNumbersOf numbers ids =
+abbrev pub AreRequestNumbers : tree.BTreeMap (List ℕ) ℕ → List (List ℕ) → Type 0
+AreRequestNumbers numbers ids =
     (id : List ℕ) → MatchOption (tree.get (slice_cmp nat_cmp) numbers id) (¬ Contains ids id)
     (λ i. slice_get ids i ≡ Some id)
 
@@ -17,4 +17,4 @@ pub record AreKept (asked : List (List ℕ)) (taken : ℕ) (numbers : tree.BTree
   pub within : taken ≤ length asked
   pub few : length asked ≤ taken + most_waiting
   pub distinct : AreDistinct asked
-  pub numbered : AreNumbersOf numbers asked
+  pub numbered : AreRequestNumbers numbers asked

@@ -1,3 +1,3 @@
 pub mod Asked
 pub mod Kept
-pub mod Taking
+pub mod TakenEntry

@@ -34,9 +34,9 @@ pub enum RequestError {
 
 impl From<ReadFailure> for RequestError {
     ghost use Rattle.std.specs.Prelude.{◌≡◌};
-    ghost use Rattle.object_requests.specs.Taking.{error_of_failure};
+    ghost use Rattle.object_requests.specs.TakenEntry.{request_error_of};
 
-    ghost from_gives = { λ failure error. error ≡ error_of_failure failure };
+    ghost from_gives = { λ failure error. error ≡ request_error_of failure };
 
     fn from(failure: ReadFailure) -> RequestError {
         match failure {

@@ -12,7 +12,8 @@ ghost use Rattle.object_stream.specs.BatchEntry.{object_entry};
 ghost use Rattle.object_stream.specs.TypedObject.{typed_id};
 ghost use Rattle.object_requests.specs.Asked.{AreDistinct, Asked, most_waiting, request_line};
 ghost use Rattle.object_requests.specs.Asked.{waiting, with_asked};
-ghost use Rattle.object_requests.specs.Taking.{MayRefuse, MayRefuseFor, Takes, stream_error_for};
+ghost use Rattle.object_requests.specs.TakenEntry.{MayRefuseOldest, MayRefuseFor, Takes};
+ghost use Rattle.object_requests.specs.TakenEntry.{stream_error_for};
 
 use crate::error::{AskError, RequestError};
 use gix_hash_core::{Kind, ObjectId};
@@ -222,7 +223,7 @@ impl Requests {
             → Keeps (W.contents writer.old) (W.contents writer.new) }
         ensures refused { IfErr result (λ error.
             IfSome (prepend_known self.old.ahead (R.remaining reader.old))
-            (λ bytes. MayRefuse self.old bytes error)) }
+            (λ bytes. MayRefuseOldest self.old bytes error)) }
         ensures same { OnErr result (self.new ≡ record self.old {
           contents = [];
           ahead = self.new.ahead;

@@ -9,7 +9,7 @@ use std::alloc::Global;
 use std::process::Abort;
 
 /// The id with these digits.
-fn id_of(rt: &impl Abort, digits: &str) -> ObjectId {
+pub fn id_of(rt: &impl Abort, digits: &str) -> ObjectId {
     ObjectId::from_hex(digits.as_bytes())
         .ok()
         .expect(rt, "an id")

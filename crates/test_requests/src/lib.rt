@@ -1,10 +1,15 @@
-//! Tests of objects that are asked for, that no contract can say: entries that Git wrote, readers
-//! that give little at a time, end early or fail, and writers that are flushed or fail.
+//! Tests of objects and commits that are asked for, that no contract can say: entries that Git
+//! wrote, readers that give little at a time, end early or fail, and writers that are flushed or
+//! fail.
 #![tactic(auto)]
 
 #[cfg(test)]
 mod asking;
 #[cfg(test)]
+mod completing;
+#[cfg(test)]
 mod fixtures;
+#[cfg(test)]
+mod history;
 #[cfg(test)]
 mod tables;

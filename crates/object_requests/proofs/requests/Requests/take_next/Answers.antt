@@ -5,7 +5,7 @@ use Rattle.std.specs.Io.KnownBytes.{prepend_known}
 use Rattle.std.proofs.lemmas.Option.{slice_get-get_or}
 use Rattle.object_stream.specs.TypedObject.{typed_id}
 use Rattle.object_requests.specs.Asked.{Asked}
-use Rattle.object_requests.specs.Taking.{MayRefuse, Takes}
+use Rattle.object_requests.specs.TakenEntry.{MayRefuseOldest, Takes}
 use Rattle.object_requests.specs.declared.error.RequestError.TheVariants.{WriteFailed}
 use Rattle.object_requests.proofs.TakenLemmas.{refused_always, refused_next}
 use Rattle.object_requests.proofs.requests.Requests.take_next.Goals as goal
@@ -32,8 +32,8 @@ returns-in-Err-clause-refused g c =
       contents = [];
       ahead = [];
     } in
-    subst (λ (a : Asked). IfSome (prepend_known a.ahead known) (λ bytes. MayRefuse a bytes c.in-Err.error)) c.self.view_is
-    (subst (λ (view : List ℕ). IfSome (prepend_known view known) (λ bytes. MayRefuse before bytes c.in-Err.error))
+    subst (λ (a : Asked). IfSome (prepend_known a.ahead known) (λ bytes. MayRefuseOldest a bytes c.in-Err.error)) c.self.view_is
+    (subst (λ (view : List ℕ). IfSome (prepend_known view known) (λ bytes. MayRefuseOldest before bytes c.in-Err.error))
     c.consume.ensures
     (refused_next before (prepend_known c.consume.new.self known) id c.in-Err.error there c.in-Err.ensures.refused))
 

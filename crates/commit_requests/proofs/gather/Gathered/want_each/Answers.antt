@@ -1,0 +1,38 @@
+use Rattle.std.proofs.Common.{◌≡◌, ◌∙◌, ◌∷◌, ◌<◌, [], ℕ, List, Some, ap, arith, length, slice_get, subst, sym, take}
+use Rattle.std.proofs.lemmas.Option.{slice_get-get_or}
+use Rattle.newer_commits.specs.CommitsOnTop.{CommitsOnTop}
+use Rattle.commit_requests.specs.Gathering.{WantsMore}
+use Rattle.commit_requests.proofs.GatherLemmas.{wants_next}
+use Rattle.commit_requests.proofs.ListSteps.{take_next}
+use Rattle.commit_requests.proofs.gather.Gathered.want_each.Goals as goal
+
+pub loop-id-preserved : goal.loop-id-preserved
+loop-id-preserved g c =
+    let finds = g.S.Base.finds in
+    let facts = g.S.Base.facts in
+    let old = c.args.newer.now in
+    let mid = c.loop-id.newer in
+    let asked : List (List ℕ) = c.args.requests.now.asked in
+    let ids : List (List ℕ) = c.args.ids.now in
+    let k : ℕ = c.loop-id.id-index in
+    let id : List ℕ = c.id-item.result in
+    let lt : k < length ids = omega arith in
+    let at : slice_get ids k ≡ Some id = slice_get-get_or ids k id lt ∙ ap (λ (x : List ℕ). Some x) (sym c.id-item.is) in
+    let before : List (List ℕ) = c.loop-id.self.wanted.items in
+    let after : List (List ℕ) = c.want.new.self.wanted.items in
+    let one : WantsMore (finds (facts old.base)) old.commits asked before after (id ∷ []) =
+    subst (λ (t : CommitsOnTop). WantsMore (finds (facts old.base)) t asked before after (id ∷ [])) c.loop-id.invariant.commits
+    (subst (λ (f : g.S.Base.Facts). WantsMore (finds f) mid.commits asked before after (id ∷ [])) c.loop-id.invariant.facts
+    c.in-Ok.ensures.wanted) in
+    record {
+      known = c.in-Ok.ensures.known ∙ c.loop-id.invariant.known;
+      facts = c.in-Ok.ensures.facts ∙ c.loop-id.invariant.facts;
+      kept = λ t told. c.loop-id.invariant.kept t (c.in-Ok.ensures.kept t told);
+      kind = c.in-Ok.ensures.kind ∙ c.loop-id.invariant.kind;
+      commits = c.in-Ok.ensures.commits ∙ c.loop-id.invariant.commits;
+      held = c.in-Ok.ensures.held ∙ c.loop-id.invariant.held;
+      wanted = subst (WantsMore (finds (facts old.base)) old.commits asked c.args.self.now.wanted.items after)
+          (sym (take_next ids k id at))
+          (wants_next (finds (facts old.base)) old.commits asked c.args.self.now.wanted.items before after (take k ids) id
+          c.loop-id.invariant.wanted one);
+    }
