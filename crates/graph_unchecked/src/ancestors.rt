@@ -1,0 +1,269 @@
+//! The searches for an ancestor, over parts that are kept, as is their memory.
+
+ghost use Rattle.std.specs.Prelude.{◌≡◌, ◌<◌, All, List, IfOk, IfSome};
+ghost use Rattle.std.specs.Option.{ForSome};
+ghost use Rattle.graph_format.specs.Layer.{Layer};
+ghost use Rattle.graph_format.specs.OptionalChunks.{HasDates};
+ghost use Rattle.gix_commitgraph.specs.Graph.{IsGraph};
+ghost use Rattle.graph_parts.specs.OfTree.{AreOfTree};
+ghost use Rattle.graph_parts.specs.Shown.{AreGraphParts, Shows, commits_of_parts};
+ghost use Rattle.graph_unchecked.specs.PartSearches.{IsStepsUnchecked};
+ghost use Rattle.graph_unchecked.specs.PartSource.{ReadsOn, StayParts};
+ghost use Rattle.graph_unchecked.specs.Unchecked.{IsToldUnchecked};
+ghost use Rattle.graph_unchecked.specs.Unread.{failures_after_reads};
+
+use crate::dates::PartDates;
+use crate::source::PartCommits;
+use crate::steady::SteadyCommits;
+use crate::unread::Unread;
+use commit_search::FewSearcher;
+use gix_commitgraph::Position;
+use graph_bases::law::corrected_dates_fall_along_parents;
+use graph_folder::folder::Folder;
+use graph_parts::parts::GraphParts;
+use std::alloc::Global;
+
+/// So many commits a search for an ancestor visits by generation numbers alone, before one that
+/// goes by dates too takes its place: their dates are reads of their own, and most searches visit
+/// fewer.
+const MOST_BY_GENERATIONS: u32 = 512;
+
+/// Whether the first commit is an ancestor of the second, or the same. Where each layer has
+/// corrected dates, and a search by generation numbers alone has visited many commits, it is told by
+/// one that goes by the dates too.
+pub(crate) fn told_of<T: Folder>(
+    searcher: &mut FewSearcher,
+    alloc: Global,
+    folder: &mut T,
+    parts: &mut GraphParts,
+    first: Position,
+    second: Position,
+) -> Result<bool, Unread>
+    requires parts { AreGraphParts parts.old }
+    requires of { AreOfTree (T.tree folder.old) parts.old }
+    requires first { first.0 < commits_of_parts parts.old }
+    requires second { second.0 < commits_of_parts parts.old }
+    ensures stay { StayParts (T.tree folder.old) parts.old parts.new }
+    ensures told { ForSome (T.tree folder.old) (λ _. (layers : List Layer)
+        → Shows (T.tree folder.old) parts.old layers → IsGraph layers
+        → IfOk result (IsToldUnchecked layers first.0 second.0)) }
+    ensures tree { T.tree folder.new ≡ T.tree folder.old }
+    ensures failures { T.failure_count folder.new
+        ≡ failures_after_reads result (T.failure_count folder.old) }
+{
+    let most = if parts.has_dates() {
+        MOST_BY_GENERATIONS
+    } else {
+        u32::MAX
+    };
+    let found = told_by_generations(searcher, alloc, folder, parts, first, second, most)?;
+    match found {
+        Some(told) => Ok(told),
+        None if parts.has_dates() => told_by_dates(searcher, alloc, folder, parts, first, second),
+        None => Err(Unread::NotByParts),
+    }
+}
+
+/// Whether the first commit is an ancestor of the second, or the same: the search leaves out the
+/// commits with lower generation numbers than the first, and visits no more than so many. `None`
+/// comes where these are not enough.
+fn told_by_generations<T: Folder>(
+    searcher: &mut FewSearcher,
+    alloc: Global,
+    folder: &mut T,
+    parts: &mut GraphParts,
+    first: Position,
+    second: Position,
+    most: u32,
+) -> Result<Option<bool>, Unread>
+    requires parts { AreGraphParts parts.old }
+    requires of { AreOfTree (T.tree folder.old) parts.old }
+    requires first { first.0 < commits_of_parts parts.old }
+    requires second { second.0 < commits_of_parts parts.old }
+    ensures reads { ReadsOn (T.tree folder.old) parts.old parts.new }
+    ensures told { ForSome (T.tree folder.old) (λ _. (layers : List Layer)
+        → Shows (T.tree folder.old) parts.old layers → IsGraph layers
+        → IfOk result (λ found. IfSome found
+        (IsToldUnchecked layers first.0 second.0))) }
+    ensures tree { T.tree folder.new ≡ T.tree folder.old }
+    ensures failures { T.failure_count folder.new
+        ≡ failures_after_reads result (T.failure_count folder.old) }
+{
+    let failures = folder.failures();
+    let mut commits = PartCommits {
+        alloc,
+        folder,
+        parts,
+        failures,
+        failed: false,
+        left: most,
+    };
+    let told = searcher.is_ancestor(&mut commits, first, second);
+    match commits.unless_failed(told) {
+        Ok(told) => Ok(Some(told)),
+        Err(Unread::NotByParts) if commits.left == 0 => Ok(None),
+        Err(error) => Err(error),
+    }
+}
+
+/// Whether the first commit is an ancestor of the second, or the same, where each layer has
+/// corrected dates: the search leaves out the commits with a lower generation number or an earlier
+/// date than the first.
+fn told_by_dates<T: Folder>(
+    searcher: &mut FewSearcher,
+    alloc: Global,
+    folder: &mut T,
+    parts: &mut GraphParts,
+    first: Position,
+    second: Position,
+) -> Result<bool, Unread>
+    requires parts { AreGraphParts parts.old }
+    requires of { AreOfTree (T.tree folder.old) parts.old }
+    requires dates { (layers : List Layer) → Shows (T.tree folder.old) parts.old layers
+        → All HasDates layers }
+    requires first { first.0 < commits_of_parts parts.old }
+    requires second { second.0 < commits_of_parts parts.old }
+    ensures stay { StayParts (T.tree folder.old) parts.old parts.new }
+    ensures told { ForSome (T.tree folder.old) (λ _. (layers : List Layer)
+        → Shows (T.tree folder.old) parts.old layers → IsGraph layers
+        → IfOk result (IsToldUnchecked layers first.0 second.0)) }
+    ensures tree { T.tree folder.new ≡ T.tree folder.old }
+    ensures failures { T.failure_count folder.new
+        ≡ failures_after_reads result (T.failure_count folder.old) }
+{
+    corrected_dates_fall_along_parents();
+    let failures = folder.failures();
+    let mut commits = SteadyCommits {
+        commits: PartCommits {
+            alloc,
+            folder,
+            parts,
+            failures,
+            failed: false,
+            left: u32::MAX,
+        },
+    };
+    let told = searcher.is_ancestor_by(&mut commits, &PartDates, first, second);
+    let counted = commits.commits.unless_failed(told)?;
+    Ok(counted.0)
+}
+
+/// The positions on a walk along parents from the first commit to the second. Where each layer has
+/// corrected dates, and a search by generation numbers alone has visited many commits, it is found
+/// by one that goes by the dates too.
+pub(crate) fn walk_between<T: Folder>(
+    searcher: &mut FewSearcher,
+    alloc: Global,
+    folder: &mut T,
+    parts: &mut GraphParts,
+    first: Position,
+    second: Position,
+) -> Result<Option<Vec<Position>>, Unread>
+    requires parts { AreGraphParts parts.old }
+    requires of { AreOfTree (T.tree folder.old) parts.old }
+    requires first { first.0 < commits_of_parts parts.old }
+    requires second { second.0 < commits_of_parts parts.old }
+    ensures stay { StayParts (T.tree folder.old) parts.old parts.new }
+    ensures walk { ForSome (T.tree folder.old) (λ _. (layers : List Layer)
+        → Shows (T.tree folder.old) parts.old layers → IsGraph layers
+        → IfOk result (IsStepsUnchecked layers first.0 second.0)) }
+    ensures tree { T.tree folder.new ≡ T.tree folder.old }
+    ensures failures { T.failure_count folder.new
+        ≡ failures_after_reads result (T.failure_count folder.old) }
+{
+    let most = if parts.has_dates() {
+        MOST_BY_GENERATIONS
+    } else {
+        u32::MAX
+    };
+    let found = walk_by_generations(searcher, alloc, folder, parts, first, second, most)?;
+    match found {
+        Some(walk) => Ok(walk),
+        None if parts.has_dates() => walk_by_dates(searcher, alloc, folder, parts, first, second),
+        None => Err(Unread::NotByParts),
+    }
+}
+
+/// The positions on a walk along parents from the first commit to the second: the search leaves out
+/// the commits with lower generation numbers than the second, and visits no more than so many.
+/// `None` comes where these are not enough.
+fn walk_by_generations<T: Folder>(
+    searcher: &mut FewSearcher,
+    alloc: Global,
+    folder: &mut T,
+    parts: &mut GraphParts,
+    first: Position,
+    second: Position,
+    most: u32,
+) -> Result<Option<Option<Vec<Position>>>, Unread>
+    requires parts { AreGraphParts parts.old }
+    requires of { AreOfTree (T.tree folder.old) parts.old }
+    requires first { first.0 < commits_of_parts parts.old }
+    requires second { second.0 < commits_of_parts parts.old }
+    ensures reads { ReadsOn (T.tree folder.old) parts.old parts.new }
+    ensures walk { ForSome (T.tree folder.old) (λ _. (layers : List Layer)
+        → Shows (T.tree folder.old) parts.old layers → IsGraph layers
+        → IfOk result (λ found. IfSome found
+        (IsStepsUnchecked layers first.0 second.0))) }
+    ensures tree { T.tree folder.new ≡ T.tree folder.old }
+    ensures failures { T.failure_count folder.new
+        ≡ failures_after_reads result (T.failure_count folder.old) }
+{
+    let failures = folder.failures();
+    let mut commits = PartCommits {
+        alloc,
+        folder,
+        parts,
+        failures,
+        failed: false,
+        left: most,
+    };
+    let found = searcher.ancestor_walk(&mut commits, first, second);
+    match commits.unless_failed(found) {
+        Ok(reached) => Ok(Some(reached.walk)),
+        Err(Unread::NotByParts) if commits.left == 0 => Ok(None),
+        Err(error) => Err(error),
+    }
+}
+
+/// The positions on a walk along parents from the first commit to the second, where each layer has
+/// corrected dates: the search leaves out the commits with a lower generation number or an earlier
+/// date than the second.
+fn walk_by_dates<T: Folder>(
+    searcher: &mut FewSearcher,
+    alloc: Global,
+    folder: &mut T,
+    parts: &mut GraphParts,
+    first: Position,
+    second: Position,
+) -> Result<Option<Vec<Position>>, Unread>
+    requires parts { AreGraphParts parts.old }
+    requires of { AreOfTree (T.tree folder.old) parts.old }
+    requires dates { (layers : List Layer) → Shows (T.tree folder.old) parts.old layers
+        → All HasDates layers }
+    requires first { first.0 < commits_of_parts parts.old }
+    requires second { second.0 < commits_of_parts parts.old }
+    ensures stay { StayParts (T.tree folder.old) parts.old parts.new }
+    ensures walk { ForSome (T.tree folder.old) (λ _. (layers : List Layer)
+        → Shows (T.tree folder.old) parts.old layers → IsGraph layers
+        → IfOk result (IsStepsUnchecked layers first.0 second.0)) }
+    ensures tree { T.tree folder.new ≡ T.tree folder.old }
+    ensures failures { T.failure_count folder.new
+        ≡ failures_after_reads result (T.failure_count folder.old) }
+{
+    corrected_dates_fall_along_parents();
+    let failures = folder.failures();
+    let mut commits = SteadyCommits {
+        commits: PartCommits {
+            alloc,
+            folder,
+            parts,
+            failures,
+            failed: false,
+            left: u32::MAX,
+        },
+    };
+    let found = searcher.ancestor_walk_by(&mut commits, &PartDates, first, second);
+    let reached = commits.commits.unless_failed(found)?;
+    Ok(reached.walk)
+}
