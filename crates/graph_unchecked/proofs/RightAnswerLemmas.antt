@@ -68,7 +68,8 @@ module _ (law : (layers : List Layer) (id : List ℕ) (answer : Option ℕ) → 
       (at-layers tree path (IsFoundBetween IsToldUnchecked first second) answer layers opens at)
 
   pub walk-right : HasNoWrongDate layers → (tree : Tree) (path first second : List ℕ)
-      (answer : Answer (Option (Vec (List ℕ) Global))) → opened_at tree path ≡ Ok layers → IsAnswerAt tree path (IsFoundBetween IsWalkUnchecked first second) answer
+      (answer : Answer (Option (Vec (List ℕ) Global))) → opened_at tree path ≡ Ok layers
+      → IsAnswerAt tree path (IsFoundBetween IsWalkUnchecked first second) answer
       → IsScannedBetween IsShortestWalkOfIds first second layers answer
   walk-right dated tree path first second answer opens at =
       between IsWalkUnchecked IsShortestWalkOfIds (λ p q ids. shortest-walk layers p q ids sound dated) first second answer

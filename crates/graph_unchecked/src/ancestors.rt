@@ -29,8 +29,8 @@ use std::alloc::Global;
 const MOST_BY_GENERATIONS: u32 = 512;
 
 /// Whether the first commit is an ancestor of the second, or the same. Where each layer has
-/// corrected dates, and a search by generation numbers alone has visited many commits, it is told by
-/// one that goes by the dates too.
+/// corrected dates, and a search by generation numbers alone has visited many commits, one that
+/// goes by the dates too tells it.
 pub(crate) fn told_of<T: Folder>(
     searcher: &mut FewSearcher,
     alloc: Global,

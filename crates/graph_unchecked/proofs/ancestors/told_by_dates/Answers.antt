@@ -35,7 +35,8 @@ returns-clause-told g c = λ tree is layers shows graph.
     let new = c.is_ancestor_by-told.new.commits.commits in
     let old = c.args.parts.now in
     let known = g.T.Folder.tree new.folder.now in
-    let same : known ≡ g.T.Folder.tree c.args.folder.now = ap (λ (k : KnownParts). k.tree) c.is_ancestor_by-told.ensures.known in
+    let same : known ≡ g.T.Folder.tree c.args.folder.now =
+    ap (λ (k : KnownParts). k.tree) c.is_ancestor_by-told.ensures.known in
     let files : files_of new.parts.now ≡ files_of old = ap (λ (k : KnownParts). k.files) c.is_ancestor_by-told.ensures.known in
     told-by-dates known new.parts.now layers
     (record {
