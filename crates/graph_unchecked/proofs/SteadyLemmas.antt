@@ -1,31 +1,11 @@
 -- what is said of files in a known tree, however much of them is read
-use Rattle.std.proofs.Common.{◌≡◌, ℕ, ◌∙◌, IfOk, Ok, Err, Option, Result, Some, sym, subst}
+use Rattle.std.proofs.Common.{◌≡◌, ℕ, ◌∙◌, IfOk, Ok, Err, Option, Result, sym}
 use Rattle.graph_folder.specs.Tree.{Tree}
 use Rattle.graph_format.specs.declared.parents.ExtraEdge.{ExtraEdge}
 use Rattle.graph_format.specs.declared.parents.ParentEdge.{ParentEdge}
 use Rattle.commit_search.specs.Source.{AreFieldsRead, IsWordRead, Told}
-use Rattle.graph_parts.specs.OfTree.{AreOfTree}
-use Rattle.graph_parts.specs.Shown.{Shows, files_of}
 use Rattle.graph_parts.specs.declared.parts.GraphParts.{GraphParts}
 use Rattle.graph_unchecked.specs.PartSource.{PartsTell, TreeTells}
-use Rattle.graph_unchecked.proofs.SearchLemmas.{shows-after}
-
--- it is said by all parts of the same files
-pub tells_steadily : (one other : Option Tree) (a b : GraphParts) (t : Told) → one ≡ other → files_of a ≡ files_of b
-    → AreOfTree other b → TreeTells one a t → TreeTells other b t
-tells_steadily one other a b t same files of told =
-    let is : other ≡ Some told.tree = sym same ∙ told.is in
-    record {
-      tree = told.tree;
-      is = is;
-      tells = record {
-        layers = told.tells.layers;
-        shows = shows-after other told.tree is a b told.tells.layers (sym files) of
-            (subst (λ (k : Option Tree). Shows k a told.tells.layers) same told.tells.shows);
-        graph = told.tells.graph;
-        told = told.tells.told;
-      };
-    }
 
 -- what is said after is what was said before
 pub tells_before : (known now : Option Tree) (old new : GraphParts) → now ≡ known

@@ -7,8 +7,8 @@ ghost use Rattle.graph_parts.specs.Shown.{files_of};
 ghost use Rattle.graph_parts.specs.Spots.{LiesInFile};
 ghost use Rattle.graph_unchecked.specs.PartSource.{IsWordOf, KnownParts, TreeTells, told_dates};
 ghost use Rattle.graph_unchecked.specs.PartSource.{word_total};
+ghost use Rattle.graph_unchecked.specs.Steady.{tells_steadily};
 ghost use Rattle.graph_unchecked.specs.declared.unread.Unread.TheVariants.{Device};
-ghost use Rattle.graph_unchecked.proofs.SteadyLemmas.{tells_steadily};
 
 use crate::dates::PartDates;
 use crate::source::PartCommits;
