@@ -8,7 +8,7 @@ ghost use Rattle.gix_commitgraph.specs.Graph.{IsGraph};
 ghost use Rattle.graph_parts.specs.OfTree.{AreOfTree};
 ghost use Rattle.graph_parts.specs.Shown.{AreGraphParts, Shows, commits_of_parts};
 ghost use Rattle.graph_unchecked.specs.PartSearches.{IsStepsUnchecked};
-ghost use Rattle.graph_unchecked.specs.PartSource.{ReadsOn, StayParts};
+ghost use Rattle.graph_unchecked.specs.PartSource.{StayParts};
 ghost use Rattle.graph_unchecked.specs.Unchecked.{IsToldUnchecked};
 ghost use Rattle.graph_unchecked.specs.Unread.{failures_after_reads};
 
@@ -23,14 +23,16 @@ use graph_folder::folder::Folder;
 use graph_parts::parts::GraphParts;
 use std::alloc::Global;
 
-/// So many commits a search for an ancestor visits by generation numbers alone, before one that
-/// goes by dates too takes its place: their dates are reads of their own, and most searches visit
-/// fewer.
-const MOST_BY_GENERATIONS: u32 = 512;
+/// How many commits a search for an ancestor visits by generation numbers alone, and how many then,
+/// where each layer has corrected dates, by these too: they are reads of their own.
+#[derive(Clone, Copy)]
+struct Turns {
+    by_generations: u32,
+    by_dates: u32,
+}
 
-/// Whether the first commit is an ancestor of the second, or the same. Where each layer has
-/// corrected dates, and a search by generation numbers alone has visited many commits, one that
-/// goes by the dates too tells it.
+/// Whether the first commit is an ancestor of the second, or the same. Most searches visit few
+/// commits, and where only dates leave out many, few are left.
 pub(crate) fn told_of<T: Folder>(
     searcher: &mut FewSearcher,
     alloc: Global,
@@ -51,16 +53,84 @@ pub(crate) fn told_of<T: Folder>(
     ensures failures { T.failure_count folder.new
         ≡ failures_after_reads result (T.failure_count folder.old) }
 {
-    let most = if parts.has_dates() {
-        MOST_BY_GENERATIONS
-    } else {
-        u32::MAX
+    let turns = Turns {
+        by_generations: 256,
+        by_dates: 256,
     };
-    let found = told_by_generations(searcher, alloc, folder, parts, first, second, most)?;
+    let soon = told_in_turn(searcher, alloc, folder, parts, first, second, turns)?;
+    match soon {
+        Some(told) => Ok(told),
+        None => told_at_length(searcher, alloc, folder, parts, first, second),
+    }
+}
+
+/// Whether the first commit is an ancestor of the second, or the same, where that takes many
+/// visits. Where each layer has corrected dates, these have the last turn: generation numbers alone
+/// do not leave out what stands below a branch that begins far back, or with a root of its own.
+fn told_at_length<T: Folder>(
+    searcher: &mut FewSearcher,
+    alloc: Global,
+    folder: &mut T,
+    parts: &mut GraphParts,
+    first: Position,
+    second: Position,
+) -> Result<bool, Unread>
+    requires parts { AreGraphParts parts.old }
+    requires of { AreOfTree (T.tree folder.old) parts.old }
+    requires first { first.0 < commits_of_parts parts.old }
+    requires second { second.0 < commits_of_parts parts.old }
+    ensures stay { StayParts (T.tree folder.old) parts.old parts.new }
+    ensures told { ForSome (T.tree folder.old) (λ _. (layers : List Layer)
+        → Shows (T.tree folder.old) parts.old layers → IsGraph layers
+        → IfOk result (IsToldUnchecked layers first.0 second.0)) }
+    ensures tree { T.tree folder.new ≡ T.tree folder.old }
+    ensures failures { T.failure_count folder.new
+        ≡ failures_after_reads result (T.failure_count folder.old) }
+{
+    let turns = Turns {
+        by_generations: if parts.has_dates() { 8192 } else { u32::MAX },
+        by_dates: u32::MAX,
+    };
+    let found = told_in_turn(searcher, alloc, folder, parts, first, second, turns)?;
     match found {
         Some(told) => Ok(told),
-        None if parts.has_dates() => told_by_dates(searcher, alloc, folder, parts, first, second),
         None => Err(Unread::NotByParts),
+    }
+}
+
+/// Whether the first commit is an ancestor of the second, or the same. `None` comes where so many
+/// visits are not enough.
+fn told_in_turn<T: Folder>(
+    searcher: &mut FewSearcher,
+    alloc: Global,
+    folder: &mut T,
+    parts: &mut GraphParts,
+    first: Position,
+    second: Position,
+    turns: Turns,
+) -> Result<Option<bool>, Unread>
+    requires parts { AreGraphParts parts.old }
+    requires of { AreOfTree (T.tree folder.old) parts.old }
+    requires first { first.0 < commits_of_parts parts.old }
+    requires second { second.0 < commits_of_parts parts.old }
+    ensures stay { StayParts (T.tree folder.old) parts.old parts.new }
+    ensures told { ForSome (T.tree folder.old) (λ _. (layers : List Layer)
+        → Shows (T.tree folder.old) parts.old layers → IsGraph layers
+        → IfOk result (λ found. IfSome found
+        (IsToldUnchecked layers first.0 second.0))) }
+    ensures tree { T.tree folder.new ≡ T.tree folder.old }
+    ensures failures { T.failure_count folder.new
+        ≡ failures_after_reads result (T.failure_count folder.old) }
+{
+    let most = turns.by_generations;
+    let found = told_by_generations(searcher, alloc, folder, parts, first, second, most)?;
+    match found {
+        Some(told) => Ok(Some(told)),
+        None if parts.has_dates() => {
+            let most = turns.by_dates;
+            told_by_dates(searcher, alloc, folder, parts, first, second, most)
+        }
+        None => Ok(None),
     }
 }
 
@@ -80,7 +150,7 @@ fn told_by_generations<T: Folder>(
     requires of { AreOfTree (T.tree folder.old) parts.old }
     requires first { first.0 < commits_of_parts parts.old }
     requires second { second.0 < commits_of_parts parts.old }
-    ensures reads { ReadsOn (T.tree folder.old) parts.old parts.new }
+    ensures stay { StayParts (T.tree folder.old) parts.old parts.new }
     ensures told { ForSome (T.tree folder.old) (λ _. (layers : List Layer)
         → Shows (T.tree folder.old) parts.old layers → IsGraph layers
         → IfOk result (λ found. IfSome found
@@ -108,7 +178,7 @@ fn told_by_generations<T: Folder>(
 
 /// Whether the first commit is an ancestor of the second, or the same, where each layer has
 /// corrected dates: the search leaves out the commits with a lower generation number or an earlier
-/// date than the first.
+/// date than the first, and visits no more than so many. `None` comes where these are not enough.
 fn told_by_dates<T: Folder>(
     searcher: &mut FewSearcher,
     alloc: Global,
@@ -116,7 +186,8 @@ fn told_by_dates<T: Folder>(
     parts: &mut GraphParts,
     first: Position,
     second: Position,
-) -> Result<bool, Unread>
+    most: u32,
+) -> Result<Option<bool>, Unread>
     requires parts { AreGraphParts parts.old }
     requires of { AreOfTree (T.tree folder.old) parts.old }
     requires dates { (layers : List Layer) → Shows (T.tree folder.old) parts.old layers
@@ -126,7 +197,8 @@ fn told_by_dates<T: Folder>(
     ensures stay { StayParts (T.tree folder.old) parts.old parts.new }
     ensures told { ForSome (T.tree folder.old) (λ _. (layers : List Layer)
         → Shows (T.tree folder.old) parts.old layers → IsGraph layers
-        → IfOk result (IsToldUnchecked layers first.0 second.0)) }
+        → IfOk result (λ found. IfSome found
+        (IsToldUnchecked layers first.0 second.0))) }
     ensures tree { T.tree folder.new ≡ T.tree folder.old }
     ensures failures { T.failure_count folder.new
         ≡ failures_after_reads result (T.failure_count folder.old) }
@@ -140,17 +212,19 @@ fn told_by_dates<T: Folder>(
             parts,
             failures,
             failed: false,
-            left: u32::MAX,
+            left: most,
         },
     };
     let told = searcher.is_ancestor_by(&mut commits, &PartDates, first, second);
-    let counted = commits.commits.unless_failed(told)?;
-    Ok(counted.0)
+    match commits.commits.unless_failed(told) {
+        Ok(counted) => Ok(Some(counted.0)),
+        Err(Unread::NotByParts) if commits.commits.left == 0 => Ok(None),
+        Err(error) => Err(error),
+    }
 }
 
-/// The positions on a walk along parents from the first commit to the second. Where each layer has
-/// corrected dates, and a search by generation numbers alone has visited many commits, it is found
-/// by one that goes by the dates too.
+/// The positions on a walk along parents from the first commit to the second. Most searches visit
+/// few commits, and where only dates leave out many, few are left.
 pub(crate) fn walk_between<T: Folder>(
     searcher: &mut FewSearcher,
     alloc: Global,
@@ -171,16 +245,83 @@ pub(crate) fn walk_between<T: Folder>(
     ensures failures { T.failure_count folder.new
         ≡ failures_after_reads result (T.failure_count folder.old) }
 {
-    let most = if parts.has_dates() {
-        MOST_BY_GENERATIONS
-    } else {
-        u32::MAX
+    let turns = Turns {
+        by_generations: 256,
+        by_dates: 256,
     };
-    let found = walk_by_generations(searcher, alloc, folder, parts, first, second, most)?;
+    let soon = walk_in_turn(searcher, alloc, folder, parts, first, second, turns)?;
+    match soon {
+        Some(walk) => Ok(walk),
+        None => walk_at_length(searcher, alloc, folder, parts, first, second),
+    }
+}
+
+/// The positions on a walk along parents from the first commit to the second, where that takes many
+/// visits. Where each layer has corrected dates, these have the last turn.
+fn walk_at_length<T: Folder>(
+    searcher: &mut FewSearcher,
+    alloc: Global,
+    folder: &mut T,
+    parts: &mut GraphParts,
+    first: Position,
+    second: Position,
+) -> Result<Option<Vec<Position>>, Unread>
+    requires parts { AreGraphParts parts.old }
+    requires of { AreOfTree (T.tree folder.old) parts.old }
+    requires first { first.0 < commits_of_parts parts.old }
+    requires second { second.0 < commits_of_parts parts.old }
+    ensures stay { StayParts (T.tree folder.old) parts.old parts.new }
+    ensures walk { ForSome (T.tree folder.old) (λ _. (layers : List Layer)
+        → Shows (T.tree folder.old) parts.old layers → IsGraph layers
+        → IfOk result (IsStepsUnchecked layers first.0 second.0)) }
+    ensures tree { T.tree folder.new ≡ T.tree folder.old }
+    ensures failures { T.failure_count folder.new
+        ≡ failures_after_reads result (T.failure_count folder.old) }
+{
+    let turns = Turns {
+        by_generations: if parts.has_dates() { 8192 } else { u32::MAX },
+        by_dates: u32::MAX,
+    };
+    let found = walk_in_turn(searcher, alloc, folder, parts, first, second, turns)?;
     match found {
         Some(walk) => Ok(walk),
-        None if parts.has_dates() => walk_by_dates(searcher, alloc, folder, parts, first, second),
         None => Err(Unread::NotByParts),
+    }
+}
+
+/// The positions on a walk along parents from the first commit to the second. `None` comes where so
+/// many visits are not enough.
+fn walk_in_turn<T: Folder>(
+    searcher: &mut FewSearcher,
+    alloc: Global,
+    folder: &mut T,
+    parts: &mut GraphParts,
+    first: Position,
+    second: Position,
+    turns: Turns,
+) -> Result<Option<Option<Vec<Position>>>, Unread>
+    requires parts { AreGraphParts parts.old }
+    requires of { AreOfTree (T.tree folder.old) parts.old }
+    requires first { first.0 < commits_of_parts parts.old }
+    requires second { second.0 < commits_of_parts parts.old }
+    ensures stay { StayParts (T.tree folder.old) parts.old parts.new }
+    ensures walk { ForSome (T.tree folder.old) (λ _. (layers : List Layer)
+        → Shows (T.tree folder.old) parts.old layers → IsGraph layers
+        → IfOk result (λ found. IfSome found
+        (IsStepsUnchecked layers first.0 second.0))) }
+    ensures tree { T.tree folder.new ≡ T.tree folder.old }
+    ensures failures { T.failure_count folder.new
+        ≡ failures_after_reads result (T.failure_count folder.old) }
+{
+    let most = turns.by_generations;
+    let found = walk_by_generations(searcher, alloc, folder, parts, first, second, most)?;
+    match found {
+        Some(walk) => Ok(Some(walk)),
+        None if parts.has_dates() => {
+            let most = turns.by_dates;
+            walk_by_dates(searcher, alloc, folder, parts, first, second, most)
+        }
+        None => Ok(None),
     }
 }
 
@@ -200,7 +341,7 @@ fn walk_by_generations<T: Folder>(
     requires of { AreOfTree (T.tree folder.old) parts.old }
     requires first { first.0 < commits_of_parts parts.old }
     requires second { second.0 < commits_of_parts parts.old }
-    ensures reads { ReadsOn (T.tree folder.old) parts.old parts.new }
+    ensures stay { StayParts (T.tree folder.old) parts.old parts.new }
     ensures walk { ForSome (T.tree folder.old) (λ _. (layers : List Layer)
         → Shows (T.tree folder.old) parts.old layers → IsGraph layers
         → IfOk result (λ found. IfSome found
@@ -228,7 +369,7 @@ fn walk_by_generations<T: Folder>(
 
 /// The positions on a walk along parents from the first commit to the second, where each layer has
 /// corrected dates: the search leaves out the commits with a lower generation number or an earlier
-/// date than the second.
+/// date than the second, and visits no more than so many. `None` comes where these are not enough.
 fn walk_by_dates<T: Folder>(
     searcher: &mut FewSearcher,
     alloc: Global,
@@ -236,7 +377,8 @@ fn walk_by_dates<T: Folder>(
     parts: &mut GraphParts,
     first: Position,
     second: Position,
-) -> Result<Option<Vec<Position>>, Unread>
+    most: u32,
+) -> Result<Option<Option<Vec<Position>>>, Unread>
     requires parts { AreGraphParts parts.old }
     requires of { AreOfTree (T.tree folder.old) parts.old }
     requires dates { (layers : List Layer) → Shows (T.tree folder.old) parts.old layers
@@ -246,7 +388,8 @@ fn walk_by_dates<T: Folder>(
     ensures stay { StayParts (T.tree folder.old) parts.old parts.new }
     ensures walk { ForSome (T.tree folder.old) (λ _. (layers : List Layer)
         → Shows (T.tree folder.old) parts.old layers → IsGraph layers
-        → IfOk result (IsStepsUnchecked layers first.0 second.0)) }
+        → IfOk result (λ found. IfSome found
+        (IsStepsUnchecked layers first.0 second.0))) }
     ensures tree { T.tree folder.new ≡ T.tree folder.old }
     ensures failures { T.failure_count folder.new
         ≡ failures_after_reads result (T.failure_count folder.old) }
@@ -260,10 +403,13 @@ fn walk_by_dates<T: Folder>(
             parts,
             failures,
             failed: false,
-            left: u32::MAX,
+            left: most,
         },
     };
     let found = searcher.ancestor_walk_by(&mut commits, &PartDates, first, second);
-    let reached = commits.commits.unless_failed(found)?;
-    Ok(reached.walk)
+    match commits.commits.unless_failed(found) {
+        Ok(reached) => Ok(Some(reached.walk)),
+        Err(Unread::NotByParts) if commits.commits.left == 0 => Ok(None),
+        Err(error) => Err(error),
+    }
 }

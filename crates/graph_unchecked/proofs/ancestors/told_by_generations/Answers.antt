@@ -5,45 +5,46 @@ use Rattle.graph_parts.specs.Shown.{Shows, files_of}
 use Rattle.graph_unchecked.specs.PartSource.{KnownParts}
 use Rattle.graph_unchecked.specs.Unchecked.{IsToldUnchecked}
 use Rattle.graph_unchecked.proofs.FailureLemmas.{found-so, stopped-telling}
-use Rattle.graph_unchecked.proofs.SearchLemmas.{reads-after, tells-after, told-answered}
+use Rattle.graph_unchecked.proofs.SearchLemmas.{stay-after, tells-after, told-answered}
 use Rattle.graph_unchecked.proofs.ancestors.told_by_generations.Goals as goal
 
 pub unless_failed-requires : goal.unless_failed-requires
 unless_failed-requires g c = stopped-telling _ _ c.is_ancestor-told.result c.is_ancestor-told.ensures.refused
 
-pub returns-in-Ok-clause-reads : goal.returns-in-Ok-clause-reads
-returns-in-Ok-clause-reads g c =
+pub returns-in-Ok-clause-stay : goal.returns-in-Ok-clause-stay
+returns-in-Ok-clause-stay g c =
     let new = c.is_ancestor-told.new.commits in
-    reads-after (g.T.Folder.tree c.args.folder.now) (g.T.Folder.tree new.folder.now)
+    stay-after (g.T.Folder.tree c.args.folder.now) (g.T.Folder.tree new.folder.now)
     (ap (λ (k : KnownParts). k.tree) c.is_ancestor-told.ensures.known)
     c.args.parts.now new.parts.now _ new.right
     (ap (λ (k : KnownParts). k.files) c.is_ancestor-told.ensures.known)
-    new.of c.is_ancestor-told.ensures.kept (search rules)
+    new.of (search rules)
 
-pub returns-in-Err-NotByParts-clause-reads : goal.returns-in-Err-NotByParts-clause-reads
-returns-in-Err-NotByParts-clause-reads g c =
+pub returns-in-Err-NotByParts-clause-stay : goal.returns-in-Err-NotByParts-clause-stay
+returns-in-Err-NotByParts-clause-stay g c =
     let new = c.is_ancestor-told.new.commits in
-    reads-after (g.T.Folder.tree c.args.folder.now) (g.T.Folder.tree new.folder.now)
+    stay-after (g.T.Folder.tree c.args.folder.now) (g.T.Folder.tree new.folder.now)
     (ap (λ (k : KnownParts). k.tree) c.is_ancestor-told.ensures.known)
     c.args.parts.now new.parts.now _ new.right
     (ap (λ (k : KnownParts). k.files) c.is_ancestor-told.ensures.known)
-    new.of c.is_ancestor-told.ensures.kept (search rules)
+    new.of (search rules)
 
-pub returns-in-Err-clause-reads : goal.returns-in-Err-clause-reads
-returns-in-Err-clause-reads g c =
+pub returns-in-Err-clause-stay : goal.returns-in-Err-clause-stay
+returns-in-Err-clause-stay g c =
     let new = c.is_ancestor-told.new.commits in
-    reads-after (g.T.Folder.tree c.args.folder.now) (g.T.Folder.tree new.folder.now)
+    stay-after (g.T.Folder.tree c.args.folder.now) (g.T.Folder.tree new.folder.now)
     (ap (λ (k : KnownParts). k.tree) c.is_ancestor-told.ensures.known)
     c.args.parts.now new.parts.now _ new.right
     (ap (λ (k : KnownParts). k.files) c.is_ancestor-told.ensures.known)
-    new.of c.is_ancestor-told.ensures.kept (search rules)
+    new.of (search rules)
 
 pub returns-in-Ok-clause-told : goal.returns-in-Ok-clause-told
 returns-in-Ok-clause-told g c = λ tree is layers shows graph.
     let new = c.is_ancestor-told.new.commits in
     let old = c.args.parts.now in
     let known = g.T.Folder.tree new.folder.now in
-    let same : known ≡ g.T.Folder.tree c.args.folder.now = ap (λ (k : KnownParts). k.tree) c.is_ancestor-told.ensures.known in
+    let same : known ≡ g.T.Folder.tree c.args.folder.now =
+    ap (λ (k : KnownParts). k.tree) c.is_ancestor-told.ensures.known in
     let files : files_of new.parts.now ≡ files_of old = ap (λ (k : KnownParts). k.files) c.is_ancestor-told.ensures.known in
     let tells = tells-after known tree (same ∙ is) old new.parts.now layers files new.of
     (subst (λ (k : Option Tree). Shows k old layers) (sym same) shows) graph in
