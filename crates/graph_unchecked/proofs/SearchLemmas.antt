@@ -180,11 +180,11 @@ module _ (known : Option Tree) (new : GraphParts) (layers : List Layer) (tells :
       → ((t : Told) → TreeTells known new t → IsTrue told.0 → LeadsWithin t.history second first told.1)
       → ((t : Told) → TreeTells known new t → CountWalks t.history → FallsAlongParents t.history (told_dates t)
       → Reaches t.history second first → IsTrue told.0) → IsToldUnchecked layers first second told.0
-  told-by-dates told yes no = record {
+  told-by-dates told there exact = record {
     there = λ found.
-        let led = yes (told_with_dates layers) tells found in (led.0, led.1);
+        let led = there (told_with_dates layers) tells found in (led.0, led.1);
     all = λ counts dated.
-        no (told_with_dates layers) tells counts (dates-fall known new layers tells.tells first all few law dated);
+        exact (told_with_dates layers) tells counts (dates-fall known new layers tells.tells first all few law dated);
   }
 
   pub steps-by-dates : (reached : Reached)

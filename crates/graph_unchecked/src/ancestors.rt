@@ -55,7 +55,7 @@ pub(crate) fn told_of<T: Folder>(
 {
     let turns = Turns {
         by_generations: 256,
-        by_dates: 256,
+        by_dates: 512,
     };
     let soon = told_in_turn(searcher, alloc, folder, parts, first, second, turns)?;
     match soon {
@@ -247,7 +247,7 @@ pub(crate) fn walk_between<T: Folder>(
 {
     let turns = Turns {
         by_generations: 256,
-        by_dates: 256,
+        by_dates: 512,
     };
     let soon = walk_in_turn(searcher, alloc, folder, parts, first, second, turns)?;
     match soon {

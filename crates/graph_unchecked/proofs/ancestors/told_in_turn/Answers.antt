@@ -20,8 +20,8 @@ told_by_dates-requires-clause-of g c =
 
 pub told_by_dates-requires-clause-dates : goal.told_by_dates-requires-clause-dates
 told_by_dates-requires-clause-dates g c = λ layers shows.
-    let yes : IsTrue c.has_dates-in-None-1.result = search rules in
-    c.has_dates-in-None-1.ensures yes (g.T.Folder.tree c.told_by_generations.new.folder) layers shows
+    let yes : IsTrue c.has_dates.result = search rules in
+    c.has_dates.ensures yes (g.T.Folder.tree c.told_by_generations.new.folder) layers shows
 
 pub told_by_dates-requires-clause-first : goal.told_by_dates-requires-clause-first
 told_by_dates-requires-clause-first g c =

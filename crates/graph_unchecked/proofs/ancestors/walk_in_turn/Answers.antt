@@ -20,8 +20,8 @@ walk_by_dates-requires-clause-of g c =
 
 pub walk_by_dates-requires-clause-dates : goal.walk_by_dates-requires-clause-dates
 walk_by_dates-requires-clause-dates g c = λ layers shows.
-    let yes : IsTrue c.has_dates-in-None-1.result = search rules in
-    c.has_dates-in-None-1.ensures yes (g.T.Folder.tree c.walk_by_generations.new.folder) layers shows
+    let yes : IsTrue c.has_dates.result = search rules in
+    c.has_dates.ensures yes (g.T.Folder.tree c.walk_by_generations.new.folder) layers shows
 
 pub walk_by_dates-requires-clause-first : goal.walk_by_dates-requires-clause-first
 walk_by_dates-requires-clause-first g c =
