@@ -1,7 +1,6 @@
 -- for a law: what is said of files in a known tree is said by all parts of them, however much of them is read
-use Rattle.std.specs.Prelude.{◌≡◌, List, Option, Some}
+use Rattle.std.specs.Prelude.{◌≡◌, Option, Some}
 use Rattle.std.proofs.Common.{◌∙◌, sym, subst}
-use Rattle.graph_format.specs.Layer.{Layer}
 use Rattle.graph_folder.specs.Tree.{Tree}
 use Rattle.commit_search.specs.Source.{Told}
 use Rattle.graph_parts.specs.OfTree.{AreOfTree}

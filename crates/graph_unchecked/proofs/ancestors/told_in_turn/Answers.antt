@@ -1,5 +1,5 @@
 -- The search by dates goes over the same layers as the one before it.
-use Rattle.std.proofs.Common.{◌<◌, IsTrue, Option, rules, sym, subst, ◌∙◌}
+use Rattle.std.proofs.Common.{IsTrue, Option, rules, sym, subst, ◌∙◌}
 use Rattle.graph_folder.specs.Tree.{Tree}
 use Rattle.graph_parts.specs.OfTree.{AreOfTree}
 use Rattle.graph_parts.specs.Shown.{Shows}
