@@ -23,6 +23,15 @@ use graph_folder::folder::Folder;
 use graph_parts::parts::GraphParts;
 use std::alloc::Global;
 
+/// So many visits the first turn has, by generation numbers alone. Most searches take fewer.
+const FEW: u32 = 256;
+
+/// So many the next one has, by the dates too. Where these leave out many commits, few are left.
+const FEW_BY_DATES: u32 = 512;
+
+/// So many the third one has, by generation numbers alone. Each visit takes fewer reads so.
+const MANY: u32 = 262_144;
+
 /// How many commits a search for an ancestor visits by generation numbers alone, and how many then,
 /// where each layer has corrected dates, by these too: they are reads of their own.
 #[derive(Clone, Copy)]
@@ -54,8 +63,8 @@ pub(crate) fn told_of<T: Folder>(
         ≡ failures_after_reads result (T.failure_count folder.old) }
 {
     let turns = Turns {
-        by_generations: 256,
-        by_dates: 512,
+        by_generations: FEW,
+        by_dates: FEW_BY_DATES,
     };
     let soon = told_in_turn(searcher, alloc, folder, parts, first, second, turns)?;
     match soon {
@@ -88,7 +97,7 @@ fn told_at_length<T: Folder>(
         ≡ failures_after_reads result (T.failure_count folder.old) }
 {
     let turns = Turns {
-        by_generations: if parts.has_dates() { 8192 } else { u32::MAX },
+        by_generations: if parts.has_dates() { MANY } else { u32::MAX },
         by_dates: u32::MAX,
     };
     let found = told_in_turn(searcher, alloc, folder, parts, first, second, turns)?;
@@ -246,8 +255,8 @@ pub(crate) fn walk_between<T: Folder>(
         ≡ failures_after_reads result (T.failure_count folder.old) }
 {
     let turns = Turns {
-        by_generations: 256,
-        by_dates: 512,
+        by_generations: FEW,
+        by_dates: FEW_BY_DATES,
     };
     let soon = walk_in_turn(searcher, alloc, folder, parts, first, second, turns)?;
     match soon {
@@ -279,7 +288,7 @@ fn walk_at_length<T: Folder>(
         ≡ failures_after_reads result (T.failure_count folder.old) }
 {
     let turns = Turns {
-        by_generations: if parts.has_dates() { 8192 } else { u32::MAX },
+        by_generations: if parts.has_dates() { MANY } else { u32::MAX },
         by_dates: u32::MAX,
     };
     let found = walk_in_turn(searcher, alloc, folder, parts, first, second, turns)?;
