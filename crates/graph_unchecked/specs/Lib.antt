@@ -1,5 +1,6 @@
 pub mod AtMostOne
 pub mod PartSource
+pub mod Steady
 pub mod Unchecked
 pub mod RightAnswers
 pub mod PartLookups

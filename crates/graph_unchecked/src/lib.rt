@@ -1,6 +1,7 @@
 //! Questions about commits of a graph that is trusted: its files are read by parts, unchecked.
 #![tactic(auto)]
 
+mod ancestors;
 mod dates;
 mod fields;
 mod ids;
@@ -10,5 +11,6 @@ mod reads;
 mod record;
 mod search;
 mod source;
+mod steady;
 pub mod trusted;
 pub mod unread;
