@@ -3,7 +3,6 @@ pub mod FieldLemmas
 pub mod DatedLemmas
 pub mod SourceLemmas
 pub mod SearchLemmas
-pub mod SteadyLemmas
 pub mod IdLemmas
 pub mod PartLookupLemmas
 pub mod RightAnswerLemmas

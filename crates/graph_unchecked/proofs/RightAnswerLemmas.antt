@@ -25,14 +25,14 @@ at-layers tree path IsSo answer layers opens at =
     let same : at.layers ≡ layers = cc in
     subst (λ (l : List Layer). IsSo l answer) same at.so
 
-told-exactly : (layers : List Layer) (first second : ℕ) (told : Bool) → Sound layers → HasNoWrongDate layers
+told-exactly : (layers : List Layer) (first second : ℕ) (told : Bool) → Sound layers
     → IsToldUnchecked layers first second told → IsToldExactly layers first second told
-told-exactly layers first second told sound dated so = (so.there, so.all sound.generations dated)
+told-exactly layers first second told sound so = (so.there, so.all sound.generations)
 
 shortest-walk : (layers : List Layer) (first second : ℕ) (answer : Option (Vec (List ℕ) Global)) → Sound layers
-    → HasNoWrongDate layers → IsWalkUnchecked layers first second answer → IsShortestWalkOfIds layers first second answer
-shortest-walk layers first second (Some ids) sound dated so = so.shortest sound.generations dated
-shortest-walk layers first second None sound dated so = so.none sound.generations dated
+    → IsWalkUnchecked layers first second answer → IsShortestWalkOfIds layers first second answer
+shortest-walk layers first second (Some ids) sound so = so.shortest sound.generations
+shortest-walk layers first second None sound so = so.none sound.generations
 
 exact-comparison : (layers : List Layer) (first : ℕ) (others : List ℕ) (answer : IdComparison (Vec (List ℕ) Global))
     → Sound layers → HasNoWrongDate layers → IsComparedUnchecked layers first others answer
@@ -60,19 +60,18 @@ module _ (law : (layers : List Layer) (id : List ℕ) (answer : Option ℕ) → 
       found_same (FoundIn layers) (IsScanned layers) scans (OfFirst (IsSo layers)) (OfFirst (IsRight layers)) ids answer
       (all_so (λ x. x) (IsSo layers) (IsRight layers) right) found
 
-  pub told-right : HasNoWrongDate layers → (tree : Tree) (path first second : List ℕ) (answer : Answer Bool)
-      → opened_at tree path ≡ Ok layers → IsAnswerAt tree path (IsFoundBetween IsToldUnchecked first second) answer
+  pub told-right : (tree : Tree) (path first second : List ℕ) (answer : Answer Bool) → opened_at tree path ≡ Ok layers
+      → IsAnswerAt tree path (IsFoundBetween IsToldUnchecked first second) answer
       → IsScannedBetween IsToldExactly first second layers answer
-  told-right dated tree path first second answer opens at =
-      between IsToldUnchecked IsToldExactly (λ p q told. told-exactly layers p q told sound dated) first second answer
+  told-right tree path first second answer opens at =
+      between IsToldUnchecked IsToldExactly (λ p q told. told-exactly layers p q told sound) first second answer
       (at-layers tree path (IsFoundBetween IsToldUnchecked first second) answer layers opens at)
 
-  pub walk-right : HasNoWrongDate layers → (tree : Tree) (path first second : List ℕ)
-      (answer : Answer (Option (Vec (List ℕ) Global))) → opened_at tree path ≡ Ok layers
-      → IsAnswerAt tree path (IsFoundBetween IsWalkUnchecked first second) answer
+  pub walk-right : (tree : Tree) (path first second : List ℕ) (answer : Answer (Option (Vec (List ℕ) Global)))
+      → opened_at tree path ≡ Ok layers → IsAnswerAt tree path (IsFoundBetween IsWalkUnchecked first second) answer
       → IsScannedBetween IsShortestWalkOfIds first second layers answer
-  walk-right dated tree path first second answer opens at =
-      between IsWalkUnchecked IsShortestWalkOfIds (λ p q ids. shortest-walk layers p q ids sound dated) first second answer
+  walk-right tree path first second answer opens at =
+      between IsWalkUnchecked IsShortestWalkOfIds (λ p q ids. shortest-walk layers p q ids sound) first second answer
       (at-layers tree path (IsFoundBetween IsWalkUnchecked first second) answer layers opens at)
 
   pub comparison-right : HasNoWrongDate layers → (tree : Tree) (path : List ℕ) (ids : List (List ℕ))

@@ -14,7 +14,7 @@ use Rattle.gix_commitgraph.specs.Graph.{IsGraph, total}
 use Rattle.gix_commitgraph.specs.IdWalks.{ids_at}
 use Rattle.commit_search.specs.Ranks.{FallsAlongParents, Ranking, by_date, by_generation}
 use Rattle.commit_search.specs.Source.{Told}
-use Rattle.commit_search.specs.WalkAnswer.{IsAnswer, IsAnswerBy, IsAnyAnswer, LeadsWithin}
+use Rattle.commit_search.specs.WalkAnswer.{IsAnswer, IsAnyAnswer}
 use Rattle.commit_search.specs.Positions.{numbers_of}
 use Rattle.commit_search.specs.declared.Reached.{Reached}
 use Rattle.graph_bases.specs.Bases.{IsCommonAncestor}
@@ -27,9 +27,8 @@ use Rattle.graph_parts.specs.Shown.{AreGraphParts, Shows, files_of}
 use Rattle.graph_parts.specs.declared.parts.GraphParts.{GraphParts}
 use Rattle.graph_parts.proofs.TreeLemmas.{same-shown, shown-seen}
 use Rattle.graph_unchecked.specs.PartSearches.{AreBasesUnchecked, IsStepsUnchecked}
-use Rattle.graph_unchecked.specs.PartSource.{PartsTell, ReadsOn, StayParts, TreeTells, past_all_layers, told_dates}
-use Rattle.graph_unchecked.specs.PartSource.{told_with_dates}
-use Rattle.graph_unchecked.specs.Unchecked.{HasNoWrongDate, IsComparedUnchecked, IsToldUnchecked, IsWalkUnchecked}
+use Rattle.graph_unchecked.specs.PartSource.{PartsTell, ReadsOn, past_all_layers, told_dates, told_with_dates}
+use Rattle.graph_unchecked.specs.Unchecked.{IsComparedUnchecked, IsToldUnchecked, IsWalkUnchecked}
 use Rattle.graph_unchecked.proofs.DatedLemmas.{dates-past}
 
 -- the layers that were shown before are shown after
@@ -65,18 +64,6 @@ reads-after known now is old new later right same of kept ends =
     } in
     subst (ReadsOn known old) (sym ends) reads
 
--- so was it where the tree alone says what is told
-pub stay-after : (known now : Option Tree) → now ≡ known → (old new later : GraphParts) → AreGraphParts new
-    → files_of new ≡ files_of old → AreOfTree now new → later ≡ new → StayParts known old later
-stay-after known now is old new later right same of ends =
-    let stay : StayParts known old new =
-    record {
-      right = right;
-      same = same;
-      of = λ before. subst (λ (k : Option Tree). AreOfTree k new) is of;
-    } in
-    subst (StayParts known old) (sym ends) stay
-
 module _ (known : Option Tree) (new : GraphParts) (layers : List Layer) (tells : PartsTell known new (told_with_dates layers))
     (first : ℕ) where
   told-unchecked : (second : ℕ) (found : Bool)
@@ -85,7 +72,7 @@ module _ (known : Option Tree) (new : GraphParts) (layers : List Layer) (tells :
       → IsToldUnchecked layers first second found
   told-unchecked second found there all = record {
     there = there (told_with_dates layers) tells;
-    all = λ counts dated. all (told_with_dates layers) tells counts;
+    all = all (told_with_dates layers) tells;
   }
 
   pub told-answered : {E : Type 0} (second : ℕ) (r : Result Bool E)
@@ -101,17 +88,9 @@ module _ (known : Option Tree) (new : GraphParts) (layers : List Layer) (tells :
       → IsStepsUnchecked layers first second reached.walk
   steps-unchecked second reached answer right = record {
     there = (answer (told_with_dates layers) tells).walk;
-    shortest = λ counts dated. (right (told_with_dates layers) tells counts).walk;
-    none = λ counts dated. (right (told_with_dates layers) tells counts).none;
+    shortest = λ counts. (right (told_with_dates layers) tells counts).walk;
+    none = λ counts. (right (told_with_dates layers) tells counts).none;
   }
-
-  -- the stored dates fall along parents, where none of them is wrong
-  pub dates-fall : All HasDates layers → length layers ≤ past_all_layers
-      → ((history : List Node) (times dates : List ℕ) → AreRight history times dates → FallsAlongParents history (by_date dates))
-      → HasNoWrongDate layers → FallsAlongParents (history_of layers) (told_dates (told_with_dates layers))
-  dates-fall all few law dated =
-      subst (FallsAlongParents (history_of layers)) (sym (ap by_date (dates-past layers few)))
-      (law (history_of layers) (times_of layers) (dates_of layers) (dated all).right)
 
   -- a comparison of the history is one of the graph
   in-graph : (others : List ℕ) (ranking : Ranking) (found : Comparison)
@@ -171,50 +150,19 @@ module _ (known : Option Tree) (new : GraphParts) (layers : List Layer) (tells :
       }
   bases-by-dates others count is all few law (Err e) within visits common exact = tt
 
--- What a search for an ancestor answers that goes by the dates too.
-module _ (known : Option Tree) (new : GraphParts) (layers : List Layer) (tells : TreeTells known new (told_with_dates layers))
-    (all : All HasDates layers) (few : length layers ≤ past_all_layers)
-    (law : (history : List Node) (times dates : List ℕ) → AreRight history times dates
-    → FallsAlongParents history (by_date dates)) (first second : ℕ) where
-  pub told-by-dates : (told : Bool × ℕ)
-      → ((t : Told) → TreeTells known new t → IsTrue told.0 → LeadsWithin t.history second first told.1)
-      → ((t : Told) → TreeTells known new t → CountWalks t.history → FallsAlongParents t.history (told_dates t)
-      → Reaches t.history second first → IsTrue told.0) → IsToldUnchecked layers first second told.0
-  told-by-dates told there exact = record {
-    there = λ found.
-        let led = there (told_with_dates layers) tells found in (led.0, led.1);
-    all = λ counts dated.
-        exact (told_with_dates layers) tells counts (dates-fall known new layers tells.tells first all few law dated);
-  }
-
-  pub steps-by-dates : (reached : Reached)
-      → ((t : Told) → TreeTells known new t → IsAnyAnswer t.history first second reached)
-      → ((t : Told) → TreeTells known new t → CountWalks t.history → FallsAlongParents t.history (told_dates t)
-      → IsAnswerBy t.history (told_dates t) first second reached) → IsStepsUnchecked layers first second reached.walk
-  steps-by-dates reached answer right =
-      let exact : CountWalks (history_of layers) → HasNoWrongDate layers
-      → IsAnswerBy (history_of layers) (told_dates (told_with_dates layers)) first second reached =
-      λ counts dated.
-      right (told_with_dates layers) tells counts (dates-fall known new layers tells.tells first all few law dated) in
-      record {
-        there = (answer (told_with_dates layers) tells).walk;
-        shortest = λ counts dated. (exact counts dated).walk;
-        none = λ counts dated. (exact counts dated).none;
-      }
-
 -- the same with the ids of the commits
 pub walk-of-ids : (layers : List Layer) (first second : ℕ) (walk : Vec Position Global) (ids : Vec (List ℕ) Global)
     → IsStepsUnchecked layers first second (Some walk) → ids.items ≡ ids_at layers (numbers_of walk.items)
     → IsWalkUnchecked layers first second (Some ids)
 walk-of-ids layers first second walk ids steps are = record {
   there = (numbers_of walk.items, steps.there, are);
-  shortest = λ counts dated. (numbers_of walk.items, steps.shortest counts dated, are);
-  none = λ counts dated. tt;
+  shortest = λ counts. (numbers_of walk.items, steps.shortest counts, are);
+  none = λ counts. tt;
 }
 
 pub no-walk : (layers : List Layer) (first second : ℕ) → IsStepsUnchecked layers first second None
     → IsWalkUnchecked layers first second None
-no-walk layers first second steps = record { there = tt; shortest = λ counts dated. tt; none = steps.none }
+no-walk layers first second steps = record { there = tt; shortest = λ counts. tt; none = steps.none }
 
 pub bases-with-ids : (layers : List Layer) (first : ℕ) (others : List ℕ) (comparison : Comparison) (ids : Vec (List ℕ) Global)
     → AreBasesUnchecked layers first others comparison

@@ -27,7 +27,7 @@ use Rattle.graph_parts.proofs.GraphPartLemmas.{count-files, edges-long, spot-lie
 use Rattle.graph_parts.proofs.TreeLemmas.{seen-more}
 use Rattle.graph_parts.proofs.SpotLemmas.{one-file}
 use Rattle.graph_unchecked.specs.PartSource.{AreFieldsThere, IsWordOf, IsWordThere, ReadsOn, PartsTell, told_with_dates}
-use Rattle.graph_unchecked.specs.PartSource.{StayParts, word_total}
+use Rattle.graph_unchecked.specs.PartSource.{word_total}
 use Rattle.graph_unchecked.proofs.DatedLemmas.{lists-below}
 use Rattle.graph_unchecked.proofs.FieldLemmas.{fields-told, first-within, named_by_fields, second-within}
 
@@ -53,10 +53,6 @@ as_many parts = count-files parts.layers.items
 pub same-count : (known : Option Tree) (old new : GraphParts) → ReadsOn known old new
     → commits_of_parts new ≡ commits_of_parts old
 same-count known old new reads = sym (as_many new) ∙ ap commits_in_all reads.same ∙ as_many old
-
-pub stay-count : (known : Option Tree) (old new : GraphParts) → StayParts known old new
-    → commits_of_parts new ≡ commits_of_parts old
-stay-count known old new stay = sym (as_many new) ∙ ap commits_in_all stay.same ∙ as_many old
 
 -- the generation number that is read
 pub number-told : (known : Option Tree) (parts : GraphParts) (p : ℕ) (commit : StoredCommit)

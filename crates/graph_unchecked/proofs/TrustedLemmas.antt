@@ -12,7 +12,7 @@ use Rattle.graph_parts.specs.PathOpening.{opened_at}
 use Rattle.graph_parts.specs.Shown.{ArePartsOf, SeesMore, Shows}
 use Rattle.graph_parts.specs.declared.parts.GraphParts.{GraphParts}
 use Rattle.graph_parts.proofs.TreeLemmas.{seen-shown}
-use Rattle.graph_unchecked.specs.PartSource.{ReadsOn, StayParts}
+use Rattle.graph_unchecked.specs.PartSource.{ReadsOn}
 use Rattle.graph_unchecked.specs.PartLookups.{AreBoth, AreFirstAndOthers}
 use Rattle.graph_unchecked.specs.Trusted.{IsTrustedAt}
 use Rattle.graph_unchecked.specs.Unchecked.{IsAnswerAt, IsFoundAmong, IsFoundBetween}
@@ -27,18 +27,6 @@ reads-then known old mid new first second = record {
   same = second.same ∙ first.same;
   of = λ of. second.of (first.of of);
   kept = λ t tells. first.kept t (second.kept t tells);
-}
-
--- parts that are read on stay so
-pub stay-read : (known : Option Tree) (old new : GraphParts) → ReadsOn known old new → StayParts known old new
-stay-read known old new reads = record { right = reads.right; same = reads.same; of = reads.of }
-
-pub stay-then : (known : Option Tree) (old mid new : GraphParts) → StayParts known old mid → StayParts known mid new
-    → StayParts known old new
-stay-then known old mid new first second = record {
-  right = second.right;
-  same = second.same ∙ first.same;
-  of = λ of. second.of (first.of of);
 }
 
 -- the parts of what was opened
@@ -58,24 +46,20 @@ of-opened known path parts of =
     }
 
 -- are of it after more was read
-pub of-stay : (known : Option Tree) (path : List ℕ) (old new : GraphParts) → StayParts known old new → IsTrustedAt known path old
+pub of-read : (known : Option Tree) (path : List ℕ) (old new : GraphParts) → ReadsOn known old new → IsTrustedAt known path old
     → IsTrustedAt known path new
-of-stay known path old new stay of = record {
-  right = stay.right;
-  of = stay.of of.of;
+of-read known path old new reads of = record {
+  right = reads.right;
+  of = reads.of of.of;
   opened = λ tree is.
       let at = of.opened tree is in
       record {
         layers = at.layers;
         opens = at.opens;
         graph = at.graph;
-        so = shows-after known tree is old new at.layers stay.same (stay.of of.of) at.so;
+        so = shows-after known tree is old new at.layers reads.same (reads.of of.of) at.so;
       };
 }
-
-pub of-read : (known : Option Tree) (path : List ℕ) (old new : GraphParts) → ReadsOn known old new → IsTrustedAt known path old
-    → IsTrustedAt known path new
-of-read known path old new reads of = of-stay known path old new (stay-read known old new reads) of
 
 -- what is so of the layers that they show is so of the graph
 pub answer-at : {A E : Type 0} (known : Option Tree) (path : List ℕ) (old : GraphParts) (IsSo : List Layer → A → Type 0)

@@ -1,6 +1,5 @@
 pub mod AtMostOne
 pub mod PartSource
-pub mod Steady
 pub mod Unchecked
 pub mod RightAnswers
 pub mod PartLookups

@@ -16,10 +16,9 @@ use Rattle.graph_unchecked.specs.Unchecked.{HasNoWrongDate}
 -- A walk from the first commit to the second.
 pub record IsStepsUnchecked (layers : List Layer) (first second : ℕ) (answer : Option (Vec Position Global)) : Type 0 where
   pub there : IfSome answer (λ walk. IsWalkBetween (history_of layers) first second (numbers_of walk.items))
-  pub shortest : CountWalks (history_of layers) → HasNoWrongDate layers
+  pub shortest : CountWalks (history_of layers)
       → IfSome answer (λ walk. IsShortestWalk (history_of layers) first second (numbers_of walk.items))
-  pub none : CountWalks (history_of layers) → HasNoWrongDate layers
-      → IfNone answer (¬ Reaches (history_of layers) first second)
+  pub none : CountWalks (history_of layers) → IfNone answer (¬ Reaches (history_of layers) first second)
 
 -- What the first commit and the others have in common.
 pub record AreBasesUnchecked (layers : List Layer) (first : ℕ) (others : List ℕ) (answer : Comparison) : Type 0 where

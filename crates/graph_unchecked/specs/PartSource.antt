@@ -1,5 +1,5 @@
 -- what a source of commits says whose files are read by parts
-use Rattle.std.specs.Prelude.{◌≡◌, ℕ, ◌+◌, ◌<◌, List, Option, Some, length, min, nat_lt, if◌then◌else◌, slice_get}
+use Rattle.std.specs.Prelude.{◌≡◌, ℕ, ◌+◌, ◌<◌, List, Option, length, min, nat_lt, if◌then◌else◌, slice_get}
 use Rattle.std.specs.Option.{option_map_or}
 use Rattle.graph_folder.specs.Tree.{Tree}
 use Rattle.graph_format.specs.Layer.{Layer}
@@ -58,18 +58,6 @@ pub record PartsTell (known : Option Tree) (parts : GraphParts) (t : Told) : Typ
   pub shows : Shows known parts layers
   pub graph : IsGraph layers
   pub told : t ≡ told_with_dates layers
-
--- The tree is known, and the parts say what the graph tells that they show: one alone, however much of them is read.
-pub record TreeTells (known : Option Tree) (parts : GraphParts) (t : Told) : Type 0 where
-  pub tree : Tree
-  pub is : known ≡ Some tree
-  pub tells : PartsTell known parts t
-
--- Parts of the same files stay parts of a graph, and of a tree.
-pub record StayParts (known : Option Tree) (old new : GraphParts) : Type 0 where
-  pub right : AreGraphParts new
-  pub same : files_of new ≡ files_of old
-  pub of : AreOfTree known old → AreOfTree known new
 
 -- More is read of the same files: what is told after is what was told before, and parts of a tree stay so.
 pub record ReadsOn (known : Option Tree) (old new : GraphParts) : Type 0 where

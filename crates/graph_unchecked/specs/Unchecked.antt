@@ -19,26 +19,24 @@ use Rattle.answers.specs.FoundOf.{IsFoundOf, OfFirst, OfTwo}
 use Rattle.answers.specs.declared.answer.Answer.{Answer}
 use Rattle.answers.specs.declared.comparison.IdComparison.{IdComparison}
 
--- none of the corrected dates is wrong: if each layer has dates, they are right
-abbrev pub HasNoWrongDate : List Layer → Type 0
-HasNoWrongDate layers = All HasDates layers → AreDatesOf layers (dates_of layers)
-
 -- it is told whether the second commit leads to the first along parents: a yes is so in any graph, and a no where each
--- generation number counts the commits of the longest walk, and no corrected date is wrong
+-- generation number counts the commits of the longest walk
 pub record IsToldUnchecked (layers : List Layer) (first second : ℕ) (told : Bool) : Type 0 where
   pub there : IsTrue told → Reaches (history_of layers) second first
-  pub all : CountWalks (history_of layers) → HasNoWrongDate layers → Reaches (history_of layers) second first → IsTrue told
+  pub all : CountWalks (history_of layers) → Reaches (history_of layers) second first → IsTrue told
 
 -- The ids on a walk along parents from the first commit to the second: in any graph that is one, and where each generation
--- number counts the commits of the longest walk, and no corrected date is wrong, it is a shortest one, and none is answered only
--- where there is none.
+-- number counts the commits of the longest walk it is a shortest one, and none is answered only where there is none.
 pub record IsWalkUnchecked (layers : List Layer) (first second : ℕ) (answer : Option (Vec (List ℕ) Global)) : Type 0 where
   pub there : IfSome answer (λ ids.
       (walk : List ℕ) × IsWalkBetween (history_of layers) first second walk × (ids.items ≡ ids_at layers walk))
-  pub shortest : CountWalks (history_of layers) → HasNoWrongDate layers → IfSome answer (λ ids.
+  pub shortest : CountWalks (history_of layers) → IfSome answer (λ ids.
       (walk : List ℕ) × IsShortestWalk (history_of layers) first second walk × (ids.items ≡ ids_at layers walk))
-  pub none : CountWalks (history_of layers) → HasNoWrongDate layers
-      → IfNone answer (¬ Reaches (history_of layers) first second)
+  pub none : CountWalks (history_of layers) → IfNone answer (¬ Reaches (history_of layers) first second)
+
+-- none of the corrected dates is wrong: if each layer has dates, they are right
+abbrev pub HasNoWrongDate : List Layer → Type 0
+HasNoWrongDate layers = All HasDates layers → AreDatesOf layers (dates_of layers)
 
 -- What the first commit and the others have in common, and the ids of the merge bases: in any graph each base is a common
 -- ancestor, and no commit is visited more than three times; where each generation number counts the commits of the longest walk,

@@ -10,14 +10,13 @@ ghost use Rattle.gix_commitgraph.specs.Graph.{IsGraph};
 ghost use Rattle.commit_search.specs.Positions.{numbers_of};
 ghost use Rattle.graph_parts.specs.OfTree.{AreOfTree};
 ghost use Rattle.graph_parts.specs.Shown.{AreGraphParts, Shows, commits_of_parts};
-ghost use Rattle.graph_unchecked.specs.PartSearches.{AreBasesUnchecked};
-ghost use Rattle.graph_unchecked.specs.PartSource.{ReadsOn, StayParts};
+ghost use Rattle.graph_unchecked.specs.PartSearches.{AreBasesUnchecked, IsStepsUnchecked};
+ghost use Rattle.graph_unchecked.specs.PartSource.{ReadsOn};
 ghost use Rattle.graph_unchecked.specs.Unchecked.{IsComparedUnchecked, IsFoundAmong};
 ghost use Rattle.graph_unchecked.specs.Unchecked.{IsFoundBetween, IsToldUnchecked};
 ghost use Rattle.graph_unchecked.specs.Unchecked.{IsWalkUnchecked};
 ghost use Rattle.graph_unchecked.specs.Unread.{failures_after_reads};
 
-use crate::ancestors::{told_of, walk_between};
 use crate::dates::PartDates;
 use crate::ids::read_ids;
 use crate::lookup::{find_all, find_both};
@@ -48,7 +47,7 @@ pub(crate) fn told_between<T: Folder>(
 ) -> Result<Answer<bool>, Unread>
     requires parts { AreGraphParts parts.old }
     requires of { AreOfTree (T.tree folder.old) parts.old }
-    ensures stay { StayParts (T.tree folder.old) parts.old parts.new }
+    ensures reads { ReadsOn (T.tree folder.old) parts.old parts.new }
     ensures told { ForSome (T.tree folder.old) (λ _. (layers : List Layer)
         → Shows (T.tree folder.old) parts.old layers → IsGraph layers
         → IfOk result (IsFoundBetween IsToldUnchecked
@@ -78,7 +77,7 @@ pub(crate) fn walk_between_ids<T: Folder>(
 ) -> Result<Answer<Option<Vec<ObjectId>>>, Unread>
     requires parts { AreGraphParts parts.old }
     requires of { AreOfTree (T.tree folder.old) parts.old }
-    ensures stay { StayParts (T.tree folder.old) parts.old parts.new }
+    ensures reads { ReadsOn (T.tree folder.old) parts.old parts.new }
     ensures told { ForSome (T.tree folder.old) (λ _. (layers : List Layer)
         → Shows (T.tree folder.old) parts.old layers → IsGraph layers
         → IfOk result (IsFoundBetween IsWalkUnchecked
@@ -128,6 +127,40 @@ pub(crate) fn compared_among<T: Folder>(
     }
 }
 
+/// Whether the first commit is an ancestor of the second, or the same.
+fn told_of<T: Folder>(
+    searcher: &mut FewSearcher,
+    alloc: Global,
+    folder: &mut T,
+    parts: &mut GraphParts,
+    first: Position,
+    second: Position,
+) -> Result<bool, Unread>
+    requires parts { AreGraphParts parts.old }
+    requires of { AreOfTree (T.tree folder.old) parts.old }
+    requires first { first.0 < commits_of_parts parts.old }
+    requires second { second.0 < commits_of_parts parts.old }
+    ensures reads { ReadsOn (T.tree folder.old) parts.old parts.new }
+    ensures told { ForSome (T.tree folder.old) (λ _. (layers : List Layer)
+        → Shows (T.tree folder.old) parts.old layers → IsGraph layers
+        → IfOk result (IsToldUnchecked layers first.0 second.0)) }
+    ensures tree { T.tree folder.new ≡ T.tree folder.old }
+    ensures failures { T.failure_count folder.new
+        ≡ failures_after_reads result (T.failure_count folder.old) }
+{
+    let failures = folder.failures();
+    let mut commits = PartCommits {
+        alloc,
+        folder,
+        parts,
+        failures,
+        failed: false,
+        left: u32::MAX,
+    };
+    let told = searcher.is_ancestor(&mut commits, first, second);
+    commits.unless_failed(told)
+}
+
 /// The ids on a walk along parents from the first commit to the second.
 fn walk_ids<T: Folder>(
     searcher: &mut FewSearcher,
@@ -141,7 +174,7 @@ fn walk_ids<T: Folder>(
     requires of { AreOfTree (T.tree folder.old) parts.old }
     requires first { first.0 < commits_of_parts parts.old }
     requires second { second.0 < commits_of_parts parts.old }
-    ensures stay { StayParts (T.tree folder.old) parts.old parts.new }
+    ensures reads { ReadsOn (T.tree folder.old) parts.old parts.new }
     ensures walk { ForSome (T.tree folder.old) (λ _. (layers : List Layer)
         → Shows (T.tree folder.old) parts.old layers → IsGraph layers
         → IfOk result (IsWalkUnchecked layers first.0 second.0)) }
@@ -157,6 +190,41 @@ fn walk_ids<T: Folder>(
         }
         None => Ok(None),
     }
+}
+
+/// The positions on a walk along parents from the first commit to the second.
+fn walk_between<T: Folder>(
+    searcher: &mut FewSearcher,
+    alloc: Global,
+    folder: &mut T,
+    parts: &mut GraphParts,
+    first: Position,
+    second: Position,
+) -> Result<Option<Vec<Position>>, Unread>
+    requires parts { AreGraphParts parts.old }
+    requires of { AreOfTree (T.tree folder.old) parts.old }
+    requires first { first.0 < commits_of_parts parts.old }
+    requires second { second.0 < commits_of_parts parts.old }
+    ensures reads { ReadsOn (T.tree folder.old) parts.old parts.new }
+    ensures walk { ForSome (T.tree folder.old) (λ _. (layers : List Layer)
+        → Shows (T.tree folder.old) parts.old layers → IsGraph layers
+        → IfOk result (IsStepsUnchecked layers first.0 second.0)) }
+    ensures tree { T.tree folder.new ≡ T.tree folder.old }
+    ensures failures { T.failure_count folder.new
+        ≡ failures_after_reads result (T.failure_count folder.old) }
+{
+    let failures = folder.failures();
+    let mut commits = PartCommits {
+        alloc,
+        folder,
+        parts,
+        failures,
+        failed: false,
+        left: u32::MAX,
+    };
+    let found = searcher.ancestor_walk(&mut commits, first, second);
+    let reached = commits.unless_failed(found)?;
+    Ok(reached.walk)
 }
 
 /// What the first commit and the others have in common, and the ids of the merge bases.

@@ -29,9 +29,8 @@ use std::marker::Model;
 /// A graph that is trusted, for many questions: its files are read by parts, which are kept from
 /// one question to the next, as is the memory of the searches.
 ///
-/// The graph is not checked. In one that is right the answers are exact; if each layer has
-/// corrected dates, these have to be right too. In any other a yes and a walk still name what is
-/// there, merge bases are common ancestors, and a no promises nothing.
+/// The graph is not checked. In one that is right the answers are exact. In any other a yes and a
+/// walk still name what is there, merge bases are common ancestors, and a no promises nothing.
 ///
 /// The folder of each question is the one in which the graph was opened. Each question may answer
 /// `Device` where a read failed, `OutOfMemory`, and `NotByParts` where the graph is to be opened

@@ -10,8 +10,8 @@ use Rattle.gix_commitgraph.specs.Sound.{Sound}
 use Rattle.gix_commitgraph.proofs.sound.SoundLemmas.{sound-scanned}
 use Rattle.graph_parts.specs.declared.layer.StoredCommit.{StoredCommit}
 use Rattle.graph_unchecked.specs.Trusted.{AreIdsOfParents, AreParentsFound, IsCommitFound}
-use Rattle.graph_unchecked.specs.Unchecked.{HasNoWrongDate, IsAnswerAt, IsComparedUnchecked, IsFoundAmong, IsFoundBetween}
-use Rattle.graph_unchecked.specs.Unchecked.{IsToldUnchecked, IsWalkUnchecked}
+use Rattle.graph_unchecked.specs.Unchecked.{IsAnswerAt, IsComparedUnchecked, IsFoundAmong, IsFoundBetween, IsToldUnchecked}
+use Rattle.graph_unchecked.specs.Unchecked.{IsWalkUnchecked}
 use Rattle.answers.specs.FoundOf.{OfFirst, OfOne, OfTwo, listed_comparison, listed_ids, listed_walk}
 use Rattle.answers.specs.declared.answer.Answer.{Answer}
 use Rattle.answers.specs.declared.comparison.IdComparison.{IdComparison}
@@ -60,10 +60,10 @@ module _ (layers : List Layer) where
   there : (id : List ℕ) (found : Option ℕ) → FoundIn layers id found → FoundIn layers id found
   there id found is = is
 
-  walk-right : Sound layers × HasNoWrongDate layers → (p q : ℕ) (walk : Option (Vec (List ℕ) Global))
-      → IsWalkUnchecked layers p q walk → IsWalkOfIds layers p q (listed_walk walk)
-  walk-right right p q (Some ids) so = so.shortest right.0.generations right.1
-  walk-right right p q None so = so.none right.0.generations right.1
+  walk-right : Sound layers → (p q : ℕ) (walk : Option (Vec (List ℕ) Global)) → IsWalkUnchecked layers p q walk
+      → IsWalkOfIds layers p q (listed_walk walk)
+  walk-right sound p q (Some ids) so = so.shortest sound.generations
+  walk-right sound p q None so = so.none sound.generations
 
   walk-there : (p q : ℕ) (walk : Option (Vec (List ℕ) Global)) → IsWalkUnchecked layers p q walk
       → IsWalkThere layers p q (listed_walk walk)
@@ -77,11 +77,10 @@ module _ (layers : List Layer) where
   replies-told : (a b : List ℕ) (told : Answer Bool) → IsFoundBetween IsToldUnchecked a b layers told
       → IsReplyByParts layers (question.IsAncestor a b) (listed_reply (reply.Told told))
   replies-told a b told so = record {
-    right = λ right.
-        found_same (FoundIn layers) (Scans layers) (scans right.0) (OfTwo (IsToldUnchecked layers)) (OfTwo (IsTold layers))
+    right = λ sound.
+        found_same (FoundIn layers) (Scans layers) (scans sound) (OfTwo (IsToldUnchecked layers)) (OfTwo (IsTold layers))
         (a ∷ b ∷ []) told
-        (two_so (λ x. x) (IsToldUnchecked layers) (IsTold layers)
-        (λ p q known is. (is.there, is.all right.0.generations right.1))) so;
+        (two_so (λ x. x) (IsToldUnchecked layers) (IsTold layers) (λ p q known is. (is.there, is.all sound.generations))) so;
     there = found_same (FoundIn layers) (FoundIn layers) there (OfTwo (IsToldUnchecked layers)) (OfTwo (IsYesSo layers))
         (a ∷ b ∷ []) told (two_so (λ x. x) (IsToldUnchecked layers) (IsYesSo layers) (λ p q known is. is.there)) so;
   }
@@ -89,10 +88,10 @@ module _ (layers : List Layer) where
   replies-walk : (a b : List ℕ) (walk : Answer (Option (Vec (List ℕ) Global))) → IsFoundBetween IsWalkUnchecked a b layers walk
       → IsReplyByParts layers (question.Walk a b) (listed_reply (reply.Walk walk))
   replies-walk a b walk so = record {
-    right = λ right.
-        found_as (FoundIn layers) (Scans layers) (scans right.0) (OfTwo (IsWalkUnchecked layers)) (OfTwo (IsWalkOfIds layers))
+    right = λ sound.
+        found_as (FoundIn layers) (Scans layers) (scans sound) (OfTwo (IsWalkUnchecked layers)) (OfTwo (IsWalkOfIds layers))
         (a ∷ b ∷ []) listed_walk walk
-        (two_so listed_walk (IsWalkUnchecked layers) (IsWalkOfIds layers) (walk-right right)) so;
+        (two_so listed_walk (IsWalkUnchecked layers) (IsWalkOfIds layers) (walk-right sound)) so;
     there = found_as (FoundIn layers) (FoundIn layers) there (OfTwo (IsWalkUnchecked layers)) (OfTwo (IsWalkThere layers))
         (a ∷ b ∷ []) listed_walk walk (two_so listed_walk (IsWalkUnchecked layers) (IsWalkThere layers) walk-there) so;
   }

@@ -56,11 +56,9 @@ IsThereFor layers (Parents id) (reply.Parents parents) =
     IsFoundOf (FoundIn layers) (OfOne (AreParentIds layers)) (id ∷ []) parents
 IsThereFor layers asked answer = ⊥
 
--- a graph is right, as far as a question asks for it: the check accepts it; and where a search is asked for, none of its
+-- a graph is right, as far as a question asks for it: the check accepts it; and where merge bases are asked for, none of its
 -- corrected dates is wrong
 abbrev pub IsRightFor : List Layer → Question → Type 0
-IsRightFor layers (IsAncestor first second) = Sound layers × HasNoWrongDate layers
-IsRightFor layers (Walk first second) = Sound layers × HasNoWrongDate layers
 IsRightFor layers (MergeBase first others) = Sound layers × HasNoWrongDate layers
 IsRightFor layers asked = Sound layers
 

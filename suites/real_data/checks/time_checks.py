@@ -155,7 +155,6 @@ def wide():
 def check_branch(histories, results, path):
     """Checks how many commits a search for merge bases takes, by dates and without, in a checked graph and in a trusted one. Of the
     branch's commits the generation numbers are low and the dates late, so by generation numbers the whole line comes before them.
-    Searches for ancestors in the trusted graph take more than their first turns then.
     """
     few, many = range(20), range(BEFORE, 3 * BEFORE)
     offsets = [0] * (BEFORE + 6)
@@ -170,10 +169,6 @@ def check_branch(histories, results, path):
         for how, ask, visits in (("", histories.merge_base, checked), (" --unchecked", histories.merge_base_unchecked, trusted)):
             said = ask(path, id_of(BEFORE + 4), id_of(BEFORE + 5))
             results.check("a branch with a root of its own, %s: merge-base%s" % (name, how), of_branch(visits, said))
-        for first, second, leads in ((BEFORE, BEFORE + 5, False), (0, BEFORE + 4, True), (BEFORE, BEFORE + 4, True)):
-            said = histories.is_ancestor_unchecked(path, id_of(first), id_of(second))
-            title = "a branch with a root of its own, %s: is-ancestor --unchecked of %d and %d" % (name, first, second)
-            results.check(title, judge.exactly(0, "yes\n", "", said) if leads else judge.exactly(1, "no\n", "", said))
 
 
 def branch():

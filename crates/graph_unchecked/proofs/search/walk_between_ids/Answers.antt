@@ -5,10 +5,10 @@ use Rattle.graph_folder.specs.Tree.{Tree}
 use Rattle.graph_parts.specs.OfTree.{AreOfTree}
 use Rattle.graph_parts.specs.Shown.{Shows}
 use Rattle.graph_parts.proofs.TreeLemmas.{seen-more}
-use Rattle.graph_unchecked.specs.PartSource.{StayParts}
+use Rattle.graph_unchecked.specs.PartSource.{ReadsOn}
 use Rattle.graph_unchecked.specs.Unchecked.{IsWalkUnchecked}
 use Rattle.graph_unchecked.proofs.SourceLemmas.{reads_on}
-use Rattle.graph_unchecked.proofs.TrustedLemmas.{both-found, stay-read, stay-then}
+use Rattle.graph_unchecked.proofs.TrustedLemmas.{both-found, reads-then}
 use Rattle.graph_unchecked.proofs.search.walk_between_ids.Goals as goal
 
 pub walk_ids-requires-clause-of : goal.walk_ids-requires-clause-of
@@ -17,41 +17,37 @@ walk_ids-requires-clause-of g c =
     (seen-more (g.T.Folder.tree c.args.folder.now) c.args.parts.now c.find_both.new.parts c.find_both.ensures.sees
     c.requires.of)
 
-pub returns-in_err-found-clause-stay : goal.returns-in_err-found-clause-stay
-returns-in_err-found-clause-stay g c =
-    stay-read (g.T.Folder.tree c.args.folder.now) c.args.parts.now c.find_both.new.parts
-    (reads_on (g.T.Folder.tree c.args.folder.now) c.args.parts.now c.find_both.new.parts c.find_both.ensures.parts
-    c.find_both.ensures.sees)
+pub returns-in_err-found-clause-reads : goal.returns-in_err-found-clause-reads
+returns-in_err-found-clause-reads g c =
+    reads_on (g.T.Folder.tree c.args.folder.now) c.args.parts.now c.find_both.new.parts c.find_both.ensures.parts
+    c.find_both.ensures.sees
 
-pub returns-in-Unknown-clause-stay : goal.returns-in-Unknown-clause-stay
-returns-in-Unknown-clause-stay g c =
-    stay-read (g.T.Folder.tree c.args.folder.now) c.args.parts.now c.find_both.new.parts
-    (reads_on (g.T.Folder.tree c.args.folder.now) c.args.parts.now c.find_both.new.parts c.find_both.ensures.parts
-    c.find_both.ensures.sees)
+pub returns-in-Unknown-clause-reads : goal.returns-in-Unknown-clause-reads
+returns-in-Unknown-clause-reads g c =
+    reads_on (g.T.Folder.tree c.args.folder.now) c.args.parts.now c.find_both.new.parts c.find_both.ensures.parts
+    c.find_both.ensures.sees
 
 pub returns-in-Unknown-clause-told : goal.returns-in-Unknown-clause-told
 returns-in-Unknown-clause-told g c = λ tree is layers shows graph.
     (rw c.in-Unknown.is at c.in_ok-found.ensures.found) layers (c.find_both.ensures.sees.told tree is layers shows)
 
-pub returns-in_err-walk-in-Known-clause-stay : goal.returns-in_err-walk-in-Known-clause-stay
-returns-in_err-walk-in-Known-clause-stay g c =
+pub returns-in_err-walk-in-Known-clause-reads : goal.returns-in_err-walk-in-Known-clause-reads
+returns-in_err-walk-in-Known-clause-reads g c =
     let known = g.T.Folder.tree c.args.folder.now in
     let old = c.args.parts.now in
     let mid = c.find_both.new.parts in
     let new = c.walk_ids.new.parts in
-    stay-then known old mid new
-    (stay-read known old mid (reads_on known old mid c.find_both.ensures.parts c.find_both.ensures.sees))
-    (subst (λ (k : Option Tree). StayParts k mid new) c.find_both.ensures.tree c.walk_ids.ensures.stay)
+    reads-then known old mid new (reads_on known old mid c.find_both.ensures.parts c.find_both.ensures.sees)
+    (subst (λ (k : Option Tree). ReadsOn k mid new) c.find_both.ensures.tree c.walk_ids.ensures.reads)
 
-pub returns-in_ok-walk-in-Known-clause-stay : goal.returns-in_ok-walk-in-Known-clause-stay
-returns-in_ok-walk-in-Known-clause-stay g c =
+pub returns-in_ok-walk-in-Known-clause-reads : goal.returns-in_ok-walk-in-Known-clause-reads
+returns-in_ok-walk-in-Known-clause-reads g c =
     let known = g.T.Folder.tree c.args.folder.now in
     let old = c.args.parts.now in
     let mid = c.find_both.new.parts in
     let new = c.walk_ids.new.parts in
-    stay-then known old mid new
-    (stay-read known old mid (reads_on known old mid c.find_both.ensures.parts c.find_both.ensures.sees))
-    (subst (λ (k : Option Tree). StayParts k mid new) c.find_both.ensures.tree c.walk_ids.ensures.stay)
+    reads-then known old mid new (reads_on known old mid c.find_both.ensures.parts c.find_both.ensures.sees)
+    (subst (λ (k : Option Tree). ReadsOn k mid new) c.find_both.ensures.tree c.walk_ids.ensures.reads)
 
 pub returns-in_ok-walk-in-Known-clause-told : goal.returns-in_ok-walk-in-Known-clause-told
 returns-in_ok-walk-in-Known-clause-told g c = λ tree is layers shows graph.

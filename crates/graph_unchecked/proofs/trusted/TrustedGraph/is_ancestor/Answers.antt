@@ -5,7 +5,7 @@ use Rattle.graph_parts.specs.OfTree.{AreOfTree}
 use Rattle.graph_parts.specs.Shown.{AreGraphParts}
 use Rattle.graph_unchecked.specs.Trusted.{IsTrustedAt}
 use Rattle.graph_unchecked.specs.Unchecked.{IsFoundBetween, IsToldUnchecked}
-use Rattle.graph_unchecked.proofs.TrustedLemmas.{answer-at, of-stay}
+use Rattle.graph_unchecked.proofs.TrustedLemmas.{answer-at, of-read}
 use Rattle.graph_unchecked.proofs.trusted.TrustedGraph.is_ancestor.Goals as goal
 
 pub told_between-requires-clause-parts : goal.told_between-requires-clause-parts
@@ -18,7 +18,7 @@ told_between-requires-clause-of g c =
 pub returns-clause-graph : goal.returns-clause-graph
 returns-clause-graph g c = λ path of.
     let known = g.T.Folder.tree c.args.folder.now in
-    of-stay known path c.self.inside.parts _ c.told_between.ensures.stay
+    of-read known path c.self.inside.parts _ c.told_between.ensures.reads
     (subst (IsTrustedAt known path) (sym c.self.view_is) of)
 
 pub returns-clause-answer : goal.returns-clause-answer
