@@ -8,14 +8,14 @@ use Rattle.std.proofs.lemmas.List.Elements.{All-contains_itself, All-tail, Conta
 use Rattle.gix_hash_core.specs.declared.kind.Kind.{Kind}
 use Rattle.commit_objects.specs.CommitContents.{Said, Says}
 use Rattle.commit_objects.specs.Object.{object_id_of}
-use Rattle.object_requests.specs.Asked.{AreDistinct, Asked, waiting}
+use Rattle.object_requests.specs.Asked.{AreEachOnce, Asked, waiting}
 use Rattle.newer_commits.specs.CommitsOnTop.{CommitsOnTop}
 use Rattle.newer_commits.specs.Finding.{Finds}
 use Rattle.commit_requests.specs.Requested.{AreAskedFor, IsNeeded}
 use Rattle.commit_requests.specs.Gathering.{IsAskOneRefusal, IsAskRefusal}
 use Rattle.commit_requests.specs.declared.error.CompleteError.{CompleteError}
 use Rattle.commit_requests.specs.declared.error.CompleteError.TheVariants as refusal
-use Rattle.commit_requests.specs.Gathering.{AreClosed, AsksMore, IsGathering, IsSeenTo, IsThere, IsThereOrAsked, MayAsk}
+use Rattle.commit_requests.specs.Gathering.{AreClosed, AsksMore, IsGathering, IsSeenTo, StandsThere, IsThereOrAsked, MayAsk}
 use Rattle.commit_requests.specs.Gathering.{ReadsCommit, StillWants, WantsMore}
 use Rattle.graph_objects.specs.CommitWalks.{NamesParent}
 use Rattle.commit_requests.proofs.ListSteps.{values_more, values_next}
@@ -29,7 +29,7 @@ module _ (base : List ℕ → Option ℕ → Type 0) (top : CommitsOnTop) where
       → IsSeenTo base top (asked ++ more) wanted id
   seen_asked asked more wanted id seen =
       ⊎_elim
-      (λ (there : IsThere base top id). inl there)
+      (λ (there : StandsThere base top id). inl there)
       (λ (other : Contains asked id ⊎ Contains wanted id).
       ⊎_elim
       (λ (a : Contains asked id). inr (inl (Contains-append_left asked more id a)))
@@ -41,7 +41,7 @@ module _ (base : List ℕ → Option ℕ → Type 0) (top : CommitsOnTop) where
       → IsSeenTo base top asked (wanted ++ more) id
   seen_wanted asked wanted more id seen =
       ⊎_elim
-      (λ (there : IsThere base top id). inl there)
+      (λ (there : StandsThere base top id). inl there)
       (λ (other : Contains asked id ⊎ Contains wanted id).
       ⊎_elim
       (λ (a : Contains asked id). inr (inl a))
@@ -53,7 +53,7 @@ module _ (base : List ℕ → Option ℕ → Type 0) (top : CommitsOnTop) where
       → IsSeenTo base top asked wanted id → IsSeenTo base top asked wants id
   seen_still asked wanted wants id still seen =
       ⊎_elim
-      (λ (there : IsThere base top id). inl there)
+      (λ (there : StandsThere base top id). inl there)
       (λ (other : Contains asked id ⊎ Contains wanted id).
       ⊎_elim
       (λ (a : Contains asked id). inr (inl a))
@@ -72,7 +72,7 @@ module _ (base : List ℕ → Option ℕ → Type 0) (top : CommitsOnTop) where
   }
 
   -- one that was seen to is not wanted
-  pub wants_not : (asked wanted : List (List ℕ)) (id : List ℕ) → IsThere base top id ⊎ Contains asked id
+  pub wants_not : (asked wanted : List (List ℕ)) (id : List ℕ) → StandsThere base top id ⊎ Contains asked id
       → WantsMore base top asked wanted wanted (id ∷ [])
   unfolding wants_none
   wants_not asked wanted id seen = record {
@@ -81,7 +81,7 @@ module _ (base : List ℕ → Option ℕ → Type 0) (top : CommitsOnTop) where
     lacking = All-nil _;
     among = All-nil _;
     seen = All-cons (IsSeenTo base top asked wanted) id []
-        (⊎_elim (λ (there : IsThere base top id). inl there) (λ (a : Contains asked id). inr (inl a)) seen) (All-nil _);
+        (⊎_elim (λ (there : StandsThere base top id). inl there) (λ (a : Contains asked id). inr (inl a)) seen) (All-nil _);
   }
 
   -- one that is lacking is wanted
@@ -143,11 +143,11 @@ module _ (base : List ℕ → Option ℕ → Type 0) (top : CommitsOnTop) where
         (subst (λ (ys : List (List ℕ)). WantsMore base top asked ys wanted ids) fresh wants))))
 
     -- nothing was asked for
-    pub asked_none : (asked : List (List ℕ)) → asked ≡ [] → AreDistinct asked
+    pub asked_none : (asked : List (List ℕ)) → asked ≡ [] → AreEachOnce asked
         → (read : List (List ℕ)) × AreAskedFor kind base top ids asked read
     asked_none asked none distinct =
         subst (λ (xs : List (List ℕ)). (read : List (List ℕ)) × AreAskedFor kind base top ids xs read) (sym none)
-        ([], record { own = refl; distinct = subst AreDistinct none distinct; lacking = All-nil _; needed = All-nil _ })
+        ([], record { own = refl; distinct = subst AreEachOnce none distinct; lacking = All-nil _; needed = All-nil _ })
 
     module _ (asked read wanted : List (List ℕ)) (now : IsGathering kind base top ids asked read wanted) where
       -- some of those that are wanted were asked for
@@ -171,7 +171,7 @@ module _ (base : List ℕ → Option ℕ → Type 0) (top : CommitsOnTop) where
             values_more (object_id_of kind) read asked now.own asks.more
             ∙ ap (λ (xs : List (List ℕ)). take (length read) xs) (sym asks.added)
 
-        pub are_asked_for : AreDistinct after → AreAskedFor kind base top ids after read
+        pub are_asked_for : AreEachOnce after → AreAskedFor kind base top ids after read
         are_asked_for distinct = record {
           own = asked_own;
           distinct = distinct;
@@ -202,7 +202,7 @@ module _ (base : List ℕ → Option ℕ → Type 0) (top : CommitsOnTop) where
               (seen_asked asked asks.more wanted id s))
 
       -- nothing more was asked for
-      pub still_asked_for : (after : List (List ℕ)) → after ≡ asked → AreDistinct after
+      pub still_asked_for : (after : List (List ℕ)) → after ≡ asked → AreEachOnce after
           → (all : List (List ℕ)) × AreAskedFor kind base top ids after all
       still_asked_for after same distinct =
           (read, are_asked_for after (record { more = []; added = same ∙ sym (append_nil asked); among = All-nil _ }) distinct)
@@ -259,7 +259,7 @@ module _ (base : List ℕ → Option ℕ → Type 0) (top : CommitsOnTop) where
       there_or_asked : (id : List ℕ) → IsSeenTo base top asked [] id → IsThereOrAsked base top asked id
       there_or_asked id seen =
           ⊎_elim
-          (λ (there : IsThere base top id). inl there)
+          (λ (there : StandsThere base top id). inl there)
           (λ (other : Contains asked id ⊎ Contains [] id).
           ⊎_elim (λ (a : Contains asked id). inr a) (λ (w : Contains [] id). absurd (nothing_contained id w)) other)
           seen

@@ -1,5 +1,6 @@
 -- Lines that were written and entries that were read, one after another.
-use Rattle.std.proofs.Common.{◌≡◌, ℕ, List, [], ◌∷◌, ◌++◌, Option, Some, None, refl, sym, ap, ◌∙◌, subst}
+use Rattle.std.proofs.Common.{◌≡◌, ◌≢◌, ℕ, List, [], ◌∷◌, ◌++◌, Option, Some, None, Ok, Err, Result, inl, inr, refl, sym, ap}
+use Rattle.std.proofs.Common.{◌∙◌, subst}
 use Rattle.std.specs.Io.KnownBytes.{Appends, Consumes, Keeps}
 use Rattle.std.proofs.lemmas.Grind.{flat_map-append}
 use Rattle.gix_hash_core.specs.declared.kind.Kind.{Kind}
@@ -9,7 +10,12 @@ use Rattle.object_stream.specs.TypedObject.{typed_id}
 use Rattle.object_stream.specs.declared.object_type.ObjectType.{ObjectType}
 use Rattle.object_stream.specs.declared.object_type.ObjectType.TheVariants.{Commit}
 use Rattle.object_requests.specs.Asked.{request_line}
+use Rattle.object_requests.specs.declared.error.RequestError.{RequestError}
+use Rattle.object_requests.specs.declared.error.RequestError.TheVariants as request
+use Rattle.commit_requests.specs.Gathering.{IsToldAs, complete_error}
 use Rattle.commit_requests.specs.Requested.{commit_entries, request_lines}
+use Rattle.commit_requests.specs.declared.error.CompleteError.{CompleteError}
+use Rattle.commit_requests.specs.declared.error.CompleteError.TheVariants as refusal
 
 pub append_nil : {X : Type 0} (xs : List X) → xs ++ [] ≡ xs
 append_nil [] = refl
@@ -86,3 +92,22 @@ pub commit_id : (kind other : Kind) (type : ObjectType) (id bytes : List ℕ) �
     → id ≡ typed_id other type bytes → id ≡ object_id_of kind bytes
 commit_id kind other type id bytes is same own =
     own ∙ ap (λ (t : ObjectType). typed_id other t bytes) is ∙ ap (λ (k : Kind). object_id_of k bytes) same
+
+-- what went well is no failed write
+pub ok_is_no_error : {A E : Type 0} (x : A) (e : E) → Ok x ≢ Err e
+ok_is_no_error x e is = let not : Ok x ≡ Err e = is in cc
+
+-- errors are the same where they are answered the same
+pub same_error : {A E : Type 0} (one other : E) → ◌≡◌ {A = Result A E} (Err one) (Err other) → one ≡ other
+same_error one other is = cc
+
+-- an error that is none of a write is none, of a request
+pub not_of_write : {E : Type 0} (error : RequestError) (told : CompleteError E) → told ≡ complete_error {E = E} error
+    → told ≢ refusal.WriteFailed → error ≢ request.WriteFailed
+not_of_write error told same other is = other (same ∙ ap (λ (e : RequestError). complete_error e) is)
+
+-- nor is the error of a question, where it is told as none
+pub not_told_of_write : {E : Type 0} (ids : List (List ℕ)) (error told : CompleteError E) → IsToldAs ids error told
+    → told ≢ refusal.WriteFailed → error ≢ refusal.WriteFailed
+not_told_of_write ids error told (inl same) other is = other (same.0 ∙ is)
+not_told_of_write ids error told (inr missing) other is = let entry = missing.2 in cc

@@ -18,7 +18,7 @@ use Rattle.newer_commits.specs.Adding.{AreThere, IsAddRefusal}
 use Rattle.newer_commits.specs.declared.error.AddError.{AddError}
 use Rattle.newer_commits.specs.declared.error.AddError.TheVariants as add
 use Rattle.commit_requests.specs.Completion.{AddsInTurn, HaveIdsAmong}
-use Rattle.commit_requests.specs.Gathering.{AreClosed, IsThere, IsThereOrAsked}
+use Rattle.commit_requests.specs.Gathering.{AreClosed, StandsThere, IsThereOrAsked}
 use Rattle.commit_requests.specs.Placing.{AddsOrHas, ParentsComeFirst, AreListsOf, ComeAfterParents, IsNumberThere}
 use Rattle.commit_requests.specs.Placing.{IsLackingParent, IsOneRefusal, IsTurnRefusal}
 use Rattle.commit_requests.specs.declared.error.CompleteError.{CompleteError}
@@ -42,7 +42,7 @@ module _ (kind : Kind) (base : List ℕ → Option ℕ → Type 0) where
         ap (λ (xs : List NewerCommit). map (λ (c : NewerCommit). c.id) xs) adds.added
         ∙ map-append (λ (c : NewerCommit). c.id) old.commits (adds.commit ∷ [])
 
-    pub there_after : (id : List ℕ) → IsThere base old id → IsThere base new id
+    pub there_after : (id : List ℕ) → StandsThere base old id → StandsThere base new id
     there_after id there = (
       there.0,
       ⊎_elim
@@ -61,9 +61,9 @@ module _ (kind : Kind) (base : List ℕ → Option ℕ → Type 0) where
           there.1,
     )
 
-    pub own_after : IsThere base new (object_id_of kind bytes)
+    pub own_after : StandsThere base new (object_id_of kind bytes)
     own_after =
-        subst (IsThere base new) adds.is_commit.id (
+        subst (StandsThere base new) adds.is_commit.id (
           new.below + length (ids_on_top old),
           inr (
             adds.is_commit.is_new.0,
@@ -77,8 +77,8 @@ module _ (kind : Kind) (base : List ℕ → Option ℕ → Type 0) where
         )
 
   pub turn_kept : (old : CommitsOnTop) (contents : List (List ℕ)) (new : CommitsOnTop) → AddsInTurn kind base old contents new
-      → (id : List ℕ) → IsThere base old id → IsThere base new id
-  turn_kept old [] new turn id there = subst (λ (t : CommitsOnTop). IsThere base t id) (sym turn) there
+      → (id : List ℕ) → StandsThere base old id → StandsThere base new id
+  turn_kept old [] new turn id there = subst (λ (t : CommitsOnTop). StandsThere base t id) (sym turn) there
   turn_kept old (bytes ∷ more) new turn id there =
       turn_kept turn.0 more new turn.3 id (there_after old turn.0 bytes turn.1 turn.2 id there)
 
@@ -90,7 +90,7 @@ module _ (kind : Kind) (base : List ℕ → Option ℕ → Type 0) where
   turn_more old (first ∷ more) mid new bytes at turn adds =
       (turn.0, turn.1, turn.2, turn_more turn.0 more mid new bytes at turn.3 adds)
 
-  pub lost : (top : CommitsOnTop) (id : List ℕ) → Finds base top id None → IsThere base top id
+  pub lost : (top : CommitsOnTop) (id : List ℕ) → Finds base top id None → StandsThere base top id
       → (p : ℕ) × base id (Some p) × base id None
   lost top id lacks there =
       ⊎_elim
@@ -110,7 +110,7 @@ module _ (kind : Kind) (base : List ℕ → Option ℕ → Type 0) where
     pub added_none : AreAdded 0 old
     added_none = record { contents = []; turn = refl; among = All-nil _; there = All-nil _ }
 
-    there_still : (k : ℕ) (mid new : CommitsOnTop) → ((id : List ℕ) → IsThere base mid id → IsThere base new id)
+    there_still : (k : ℕ) (mid new : CommitsOnTop) → ((id : List ℕ) → StandsThere base mid id → StandsThere base new id)
         → All (IsNumberThere kind base mid read) (take k numbers) → All (IsNumberThere kind base new read) (take k numbers)
     there_still k mid new still all =
         All-weaker (IsNumberThere kind base mid read) (IsNumberThere kind base new read)
@@ -131,7 +131,7 @@ module _ (kind : Kind) (base : List ℕ → Option ℕ → Type 0) where
                 (All-push (IsNumberThere kind base new read) (take k numbers) n
                 (there_still k mid new (there_after mid new bytes one.0 one.1) so_far.there) (bytes, held, own));
           })
-          (λ (none : (new ≡ mid) × IsThere base mid (object_id_of kind bytes)).
+          (λ (none : (new ≡ mid) × StandsThere base mid (object_id_of kind bytes)).
           subst (AreAdded (k + 1)) (sym none.0)
           (record {
             contents = so_far.contents;
@@ -143,15 +143,15 @@ module _ (kind : Kind) (base : List ℕ → Option ℕ → Type 0) where
           adds
 
       module _ (order : ParentsComeFirst kind base old read numbers) where
-        parent_there : (said : Said) (id : List ℕ) → Says kind bytes said → Contains said.parents id → IsThere base mid id
+        parent_there : (said : Said) (id : List ℕ) → Says kind bytes said → Contains said.parents id → StandsThere base mid id
         parent_there said id says contained =
             ⊎_elim
-            (λ (there : IsThere base old id). turn_kept old so_far.contents mid so_far.turn id there)
+            (λ (there : StandsThere base old id). turn_kept old so_far.contents mid so_far.turn id there)
             (λ (early : (q : ℕ) × (next : List ℕ) × Contains (take k numbers) q × (slice_get read q ≡ Some next)
             × (id ≡ object_id_of kind next)).
             let there = All-contains (IsNumberThere kind base mid read) (take k numbers) early.0 so_far.there early.2 in
             let same : there.0 ≡ early.1 = same_Some there.0 early.1 (sym there.1 ∙ early.3) in
-            subst (IsThere base mid) (ap (object_id_of kind) same ∙ sym early.4) there.2)
+            subst (StandsThere base mid) (ap (object_id_of kind) same ∙ sym early.4) there.2)
             (order.after k n bytes id said at held says contained)
 
         pub added_refused : {E : Type 0} (may_fail : E → Type 0) (error : CompleteError E)
@@ -193,7 +193,7 @@ module _ (kind : Kind) (base : List ℕ → Option ℕ → Type 0) where
             let seen = All-contains (IsThereOrAsked base top asked) said.parents id
             (subst (λ (s : Said). All (IsThereOrAsked base top asked) s.parents) same h.2) contained in
             ⊎_elim
-            (λ (there : IsThere base top id). inl there)
+            (λ (there : StandsThere base top id). inl there)
             (λ (a : Contains asked id). inr (early k n bytes id said at held says contained a))
             seen;
       } where
@@ -213,19 +213,19 @@ module _ (kind : Kind) (base : List ℕ → Option ℕ → Type 0) where
       -- then all are there in the end
       pub all_there : (new : CommitsOnTop) → All (IsNumberThere kind base new read) numbers → AreThere base new asked
       all_there new all = each_there asked (λ i id at. there i id at) where
-        there : (i : ℕ) (id : List ℕ) → slice_get asked i ≡ Some id → IsThere base new id
+        there : (i : ℕ) (id : List ℕ) → slice_get asked i ≡ Some id → StandsThere base new id
         there i id at =
             let own = contents_at i id at in
             let place = contains_from_get read i own.0 own.1 in
             let n = All-contains (IsNumberThere kind base new read) numbers i all
             (order.every i (subst (λ (m : ℕ). i < m) (sym listed.as_many) (within i own.0 own.1))) in
             let same : n.0 ≡ own.0 = same_Some n.0 own.0 (sym n.1 ∙ own.1) in
-            subst (IsThere base new) (ap (object_id_of kind) same ∙ own.2) n.2
+            subst (StandsThere base new) (ap (object_id_of kind) same ∙ own.2) n.2
           where
             within : (j : ℕ) (bytes : List ℕ) → slice_get read j ≡ Some bytes → j < length read
             within j bytes found = slice_get_within read j bytes found
 
-        each_there : (xs : List (List ℕ)) → ((i : ℕ) (id : List ℕ) → slice_get xs i ≡ Some id → IsThere base new id)
+        each_there : (xs : List (List ℕ)) → ((i : ℕ) (id : List ℕ) → slice_get xs i ≡ Some id → StandsThere base new id)
             → AreThere base new xs
         each_there xs each =
             λ k d lt. each k (slice_index_or xs k d) (slice_get-get_or xs k d lt)
@@ -247,10 +247,10 @@ module _ (kind : Kind) (base : List ℕ → Option ℕ → Type 0) where
       → AddsInTurn kind base old contents new → All (IsThereOrAsked base old asked) ids → AreThere base new asked
       → AreThere base new ids
   question_there old contents new asked ids turn seen all =
-      All-weaker (IsThereOrAsked base old asked) (IsThere base new)
+      All-weaker (IsThereOrAsked base old asked) (StandsThere base new)
       (λ id s. ⊎_elim
-      (λ (there : IsThere base old id). turn_kept old contents new turn id there)
-      (λ (a : Contains asked id). All-contains (IsThere base new) asked id all a)
+      (λ (there : StandsThere base old id). turn_kept old contents new turn id there)
+      (λ (a : Contains asked id). All-contains (StandsThere base new) asked id all a)
       s)
       ids seen
 

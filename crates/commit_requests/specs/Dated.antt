@@ -10,7 +10,7 @@ abbrev pub IsDated : List Level → Placed → Type 0
 IsDated levels place = (place.number < length levels) × (place.date ≡ (level_at levels place.number).date)
 
 -- Each commit that has a level is there once or more, with its date.
-pub record AreNumbered (levels : List Level) (places : List Placed) : Type 0 where
+pub record AreDatedPlaces (levels : List Level) (places : List Placed) : Type 0 where
   pub each : All (IsDated levels) places
   pub every : (n : ℕ) → n < length levels → Contains (map (λ place. place.number) places) n
 

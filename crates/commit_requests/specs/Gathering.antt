@@ -17,16 +17,16 @@ use Rattle.commit_requests.specs.declared.error.CompleteError.{CompleteError}
 use Rattle.commit_requests.specs.declared.error.CompleteError.TheVariants as refusal
 
 -- the commit is there
-abbrev pub IsThere : (List ℕ → Option ℕ → Type 0) → CommitsOnTop → List ℕ → Type 0
-IsThere base top id = (p : ℕ) × Finds base top id (Some p)
+abbrev pub StandsThere : (List ℕ → Option ℕ → Type 0) → CommitsOnTop → List ℕ → Type 0
+StandsThere base top id = (p : ℕ) × Finds base top id (Some p)
 
 -- it is there, or was asked for, or is wanted
 abbrev pub IsSeenTo : (List ℕ → Option ℕ → Type 0) → CommitsOnTop → List (List ℕ) → List (List ℕ) → List ℕ → Type 0
-IsSeenTo base top asked wanted id = IsThere base top id ⊎ (Contains asked id ⊎ Contains wanted id)
+IsSeenTo base top asked wanted id = StandsThere base top id ⊎ (Contains asked id ⊎ Contains wanted id)
 
 -- it is there, or was asked for
 abbrev pub IsThereOrAsked : (List ℕ → Option ℕ → Type 0) → CommitsOnTop → List (List ℕ) → List ℕ → Type 0
-IsThereOrAsked base top asked id = IsThere base top id ⊎ Contains asked id
+IsThereOrAsked base top asked id = StandsThere base top id ⊎ Contains asked id
 
 -- Some of these commits, which are lacking, are wanted beside those that were; so each of them is seen to.
 pub record WantsMore (base : List ℕ → Option ℕ → Type 0) (top : CommitsOnTop) (asked old new list : List (List ℕ)) : Type 0 where

@@ -12,7 +12,7 @@ use Rattle.newer_commits.specs.Finding.{Finds}
 use Rattle.newer_commits.specs.Room.{IsFull}
 use Rattle.newer_commits.specs.declared.error.AddError.{AddError}
 use Rattle.newer_commits.specs.declared.error.AddError.TheVariants as add
-use Rattle.commit_requests.specs.Gathering.{IsThere}
+use Rattle.commit_requests.specs.Gathering.{StandsThere}
 use Rattle.commit_requests.specs.declared.error.CompleteError.{CompleteError}
 use Rattle.commit_requests.specs.declared.error.CompleteError.TheVariants as refusal
 
@@ -44,7 +44,7 @@ pub record ComeAfterParents (lists : ParentLists) (numbers : List ℕ) : Type 0 
 -- the commit with this number is there
 abbrev pub IsNumberThere : Kind → (List ℕ → Option ℕ → Type 0) → CommitsOnTop → List (List ℕ) → ℕ → Type 0
 IsNumberThere kind base top read n =
-    (bytes : List ℕ) × (slice_get read n ≡ Some bytes) × IsThere base top (object_id_of kind bytes)
+    (bytes : List ℕ) × (slice_get read n ≡ Some bytes) × StandsThere base top (object_id_of kind bytes)
 
 -- Each parent of a commit is there, or is a commit that comes before it.
 pub record ParentsComeFirst (kind : Kind) (base : List ℕ → Option ℕ → Type 0) (top : CommitsOnTop) (read : List (List ℕ))
@@ -53,13 +53,13 @@ pub record ParentsComeFirst (kind : Kind) (base : List ℕ → Option ℕ → Ty
   pub within : All (λ n. n < length read) numbers
   pub after : (k n : ℕ) (bytes id : List ℕ) (said : Said) → slice_get numbers k ≡ Some n → slice_get read n ≡ Some bytes
       → Says kind bytes said → Contains said.parents id
-      → IsThere base top id
+      → StandsThere base top id
       ⊎ ((q : ℕ) × (next : List ℕ) × Contains (take k numbers) q × (slice_get read q ≡ Some next) × (id ≡ object_id_of kind next))
 
 -- the commit with these contents was added, or it was there
 abbrev pub AddsOrHas : Kind → (List ℕ → Option ℕ → Type 0) → CommitsOnTop → CommitsOnTop → List ℕ → Type 0
 AddsOrHas kind base old new bytes =
-    ((at : ℕ) × AddsCommit kind base old new bytes at) ⊎ ((new ≡ old) × IsThere base old (object_id_of kind bytes))
+    ((at : ℕ) × AddsCommit kind base old new bytes at) ⊎ ((new ≡ old) × StandsThere base old (object_id_of kind bytes))
 
 -- the id of the parent that is not there, if that is the error
 abbrev pub IsLackingParent : {E : Type 0} → AddError E → Option (List ℕ) → Type 0

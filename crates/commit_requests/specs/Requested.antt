@@ -7,7 +7,7 @@ use Rattle.object_stream.specs.BatchEntry.{object_entry}
 use Rattle.object_stream.specs.NextEntry.{IsEntryError}
 use Rattle.object_stream.specs.declared.error.EntryError.{EntryError}
 use Rattle.object_stream.specs.declared.object_type.ObjectType.TheVariants.{Commit}
-use Rattle.object_requests.specs.Asked.{AreDistinct, request_line}
+use Rattle.object_requests.specs.Asked.{AreEachOnce, request_line}
 use Rattle.graph_objects.specs.CommitWalks.{NamesParent}
 use Rattle.newer_commits.specs.CommitsOnTop.{CommitsOnTop}
 use Rattle.newer_commits.specs.Finding.{Finds}
@@ -29,7 +29,7 @@ IsNeeded kind ids read id = Contains ids id ⊎ ((bytes : List ℕ) × Contains 
 pub record AreAskedFor (kind : Kind) (base : List ℕ → Option ℕ → Type 0) (top : CommitsOnTop) (ids asked read : List (List ℕ))
     : Type 0 where
   pub own : map (object_id_of kind) read ≡ take (length read) asked
-  pub distinct : AreDistinct asked
+  pub distinct : AreEachOnce asked
   pub lacking : All (λ id. Finds base top id None) asked
   pub needed : All (IsNeeded kind ids read) asked
 

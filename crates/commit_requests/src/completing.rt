@@ -1,12 +1,12 @@
 //! Commits that are asked for until none is lacking.
 
-ghost use Rattle.std.specs.Prelude.{◌≡◌, ◌≢◌, ◌-◌, ◌≤◌, ◌<◌, [], All, Contains, IfErr, IfOk};
-ghost use Rattle.std.specs.Prelude.{IfSome, List, OnOk};
+ghost use Rattle.std.specs.Prelude.{◌≡◌, ◌≢◌, ◌-◌, ◌≤◌, ◌<◌, [], All, Contains, Err, IfErr};
+ghost use Rattle.std.specs.Prelude.{IfOk, IfSome, List, OnOk};
 ghost use Rattle.std.specs.Prelude.{MatchOption, Option, Some, length, map, slice_get, take, ℕ};
 ghost use Rattle.std.specs.Io.KnownBytes.{Appends, Consumes, prepend_known};
 ghost use Rattle.commit_objects.specs.Object.{object_id_of};
 ghost use Rattle.commit_search.specs.Source.{Told};
-ghost use Rattle.object_requests.specs.Asked.{AreDistinct};
+ghost use Rattle.object_requests.specs.Asked.{AreEachOnce};
 ghost use Rattle.object_stream.specs.declared.object_type.ObjectType.TheVariants.{Commit};
 ghost use Rattle.newer_commits.specs.Adding.{AreThere};
 ghost use Rattle.newer_commits.specs.CommitsOnTop.{end_of_top};
@@ -62,8 +62,8 @@ pub fn complete<S: Base, R: Read, W: Write>(
         ids.now) }
     ensures all { OnOk result (AreThere (S.finds (S.facts newer.old.base)) newer.new.commits
         requests.new.asked) }
-    ensures written { OnOk result (Appends (W.contents writer.old) (W.contents writer.new)
-        (request_lines requests.new.asked)) }
+    ensures written { result ≢ Err CompleteError.WriteFailed → Appends (W.contents writer.old)
+        (W.contents writer.new) (request_lines requests.new.asked) }
     ensures read { OnOk result ((read : List (List ℕ))
         × (requests.new.asked ≡ map (object_id_of newer.old.kind) read)
         × Consumes (prepend_known requests.old.ahead (R.remaining reader.old))
@@ -105,7 +105,7 @@ fn gather<S: Base, R: Read, W: Write>(
     ensures kept { (t : Told) → S.says newer.new.base t → S.says newer.old.base t }
     ensures kind { newer.new.kind ≡ newer.old.kind }
     ensures commits { newer.new.commits ≡ newer.old.commits }
-    ensures asked { AreDistinct requests.new.asked → (read : List (List ℕ))
+    ensures asked { AreEachOnce requests.new.asked → (read : List (List ℕ))
         × AreAskedFor newer.old.kind (S.finds (S.facts newer.old.base)) newer.old.commits ids.now
         requests.new.asked read }
     ensures few { length requests.new.asked ≤ 0x70000000 }
@@ -113,8 +113,8 @@ fn gather<S: Base, R: Read, W: Write>(
         newer.old.commits requests.new.asked) }
     ensures question { OnOk result (All (IsThereOrAsked (S.finds (S.facts newer.old.base))
         newer.old.commits requests.new.asked) ids.now) }
-    ensures written { OnOk result (Appends (W.contents writer.old) (W.contents writer.new)
-        (request_lines requests.new.asked)) }
+    ensures written { result ≢ Err CompleteError.WriteFailed → Appends (W.contents writer.old)
+        (W.contents writer.new) (request_lines requests.new.asked) }
     ensures read { IfOk result (λ held.
         Consumes (prepend_known requests.old.ahead (R.remaining reader.old))
         (prepend_known requests.new.ahead (R.remaining reader.new))

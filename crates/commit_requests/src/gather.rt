@@ -1,7 +1,7 @@
 //! Commits that are asked for, with all that they lead to and that is lacking.
 
-ghost use Rattle.std.specs.Prelude.{◌≡◌, ◌+◌, ◌<◌, ◌≤◌, ◌^◌, ◌∷◌, [], All, Contains, IfErr, IfOk};
-ghost use Rattle.std.specs.Prelude.{List};
+ghost use Rattle.std.specs.Prelude.{◌≡◌, ◌≢◌, ◌+◌, ◌<◌, ◌≤◌, ◌^◌, ◌∷◌, [], All, Contains, Err};
+ghost use Rattle.std.specs.Prelude.{IfErr, IfOk, List};
 ghost use Rattle.std.specs.Prelude.{OnOk, Option, length, ℕ};
 ghost use Rattle.std.specs.Io.KnownBytes.{Appends, Consumes, Keeps, prepend_known};
 ghost use Rattle.commit_search.specs.Source.{Told};
@@ -148,9 +148,9 @@ impl Gathered {
             self.new.wanted.items) }
         ensures all { OnOk result (length (waiting requests.new) ≡ 0
             → self.new.wanted.items ≡ []) }
-        ensures written { OnOk result ((start : Option (List ℕ))
+        ensures written { result ≢ Err CompleteError.WriteFailed → (start : Option (List ℕ))
             → Appends start (W.contents writer.old) (request_lines requests.old.asked)
-            → Appends start (W.contents writer.new) (request_lines requests.new.asked)) }
+            → Appends start (W.contents writer.new) (request_lines requests.new.asked) }
         ensures refused { IfErr result (IsAskRefusal most requests.new.asked) }
     {
         while requests.has_room() {
@@ -196,7 +196,8 @@ impl Gathered {
             (commit_entries newer.old.kind self.old.held)
             → Consumes start (prepend_known requests.new.ahead (R.remaining reader.new))
             (commit_entries newer.old.kind self.new.held)) }
-        ensures written { OnOk result (Keeps (W.contents writer.old) (W.contents writer.new)) }
+        ensures written { result ≢ Err CompleteError.WriteFailed
+            → Keeps (W.contents writer.old) (W.contents writer.new) }
         ensures refused { IfErr result (IsTakeRefusal newer.old.kind
             (S.may_fail (S.known newer.old.base)) requests.old.asked requests.old.taken
             (prepend_known requests.old.ahead (R.remaining reader.old))) }
@@ -233,9 +234,9 @@ fn ask_one<W: Write, E>(
     ensures requests { requests.new ≡ record requests.old { asked = requests.new.asked } }
     ensures asked { MayAsk count most requests.old.asked requests.new.asked id }
     ensures done { OnOk result (Contains requests.new.asked id) }
-    ensures written { OnOk result ((start : Option (List ℕ))
+    ensures written { result ≢ Err CompleteError.WriteFailed → (start : Option (List ℕ))
         → Appends start (W.contents writer.old) (request_lines requests.old.asked)
-        → Appends start (W.contents writer.new) (request_lines requests.new.asked)) }
+        → Appends start (W.contents writer.new) (request_lines requests.new.asked) }
     ensures refused { IfErr result (IsAskOneRefusal count most) }
 {
     if let Some(_) = requests.number_of(&id) {

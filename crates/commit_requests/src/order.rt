@@ -4,7 +4,7 @@ ghost use Rattle.std.specs.Prelude.{◌≡◌, ◌<◌, ◌^◌, All, IfErr, IfO
 ghost use Rattle.graph_levels.specs.OnTop.{IsLevelsRefusal, level_at};
 ghost use Rattle.graph_levels.specs.ParentLists.{commit_count, parent_list};
 ghost use Rattle.commit_requests.specs.Placing.{ComeAfterParents};
-ghost use Rattle.commit_requests.specs.Dated.{AreDated, AreNumbered};
+ghost use Rattle.commit_requests.specs.Dated.{AreDated, AreDatedPlaces};
 
 use graph_levels::{Level, LevelsError, ParentLists, levels};
 use std::alloc::{AllocError, Global};
@@ -41,7 +41,7 @@ fn by_date(alloc: Global, levels: &[Level]) -> Result<Vec<Placed>, AllocError>
 
 /// The commits of these levels, by their numbers.
 fn places_of(alloc: Global, levels: &[Level]) -> Result<Vec<Placed>, AllocError>
-    ensures { IfOk result (λ places. AreNumbered levels.now places.items) }
+    ensures { IfOk result (λ places. AreDatedPlaces levels.now places.items) }
 {
     let mut places = Vec::with_capacity(alloc, levels.len())?;
     for number in 0..levels.len() {

@@ -14,7 +14,7 @@ use Rattle.std.proofs.lemmas.Map.Lookups.{exact_bytes}
 use Rattle.std.proofs.lemmas.Option.{same_Some, none-some, get_or_from_slice_get, slice_get_within}
 use Rattle.std.proofs.lemmas.List.{length-append}
 use Rattle.std.proofs.lemmas.List.Elements.{Contains-push_cases}
-use Rattle.object_requests.specs.Asked.{AreDistinct}
+use Rattle.object_requests.specs.Asked.{AreEachOnce}
 use Rattle.object_requests.specs.Kept.{AreKept, AreRequestNumbers}
 
 get_pushed : {X : Type 0} (xs : List X) (x : X) → slice_get (xs ++ x ∷ []) (length xs) ≡ Some x
@@ -46,7 +46,7 @@ contained : (ids : List (List ℕ)) (i : ℕ) (id : List ℕ) → slice_get ids 
 contained ids i id at = (i, slice_get_within ids i id at, get_or_from_slice_get ids i id id at)
 
 -- no id stands in two places, with one more that stood in none
-pub distinct_pushed : (ids : List (List ℕ)) (id : List ℕ) → AreDistinct ids → ¬ Contains ids id → AreDistinct (ids ++ id ∷ [])
+pub distinct_pushed : (ids : List (List ℕ)) (id : List ℕ) → AreEachOnce ids → ¬ Contains ids id → AreEachOnce (ids ++ id ∷ [])
 distinct_pushed ids id distinct absent i j q one other =
     ⊎_elim
     (λ (a : slice_get ids i ≡ Some q). ⊎_elim

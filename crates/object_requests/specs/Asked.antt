@@ -28,8 +28,8 @@ abbrev pub most_waiting : ℕ
 most_waiting = 64
 
 -- no id stands in two places
-abbrev pub AreDistinct : List (List ℕ) → Type 0
-AreDistinct ids = (i j : ℕ) (id : List ℕ) → slice_get ids i ≡ Some id → slice_get ids j ≡ Some id → i ≡ j
+abbrev pub AreEachOnce : List (List ℕ) → Type 0
+AreEachOnce ids = (i j : ℕ) (id : List ℕ) → slice_get ids i ≡ Some id → slice_get ids j ≡ Some id → i ≡ j
 
 -- with one more id that was asked for
 abbrev pub with_asked : Asked → List ℕ → Asked

@@ -4,7 +4,7 @@ use Rattle.std.specs.Option.{MatchOption}
 use Rattle.std.specs.Ordering.{nat_cmp}
 use Rattle.std.specs.Cmp.Lexicographic.{slice_cmp}
 use Rattle.std.specs.BTreeMap as tree
-use Rattle.object_requests.specs.Asked.{AreDistinct, most_waiting}
+use Rattle.object_requests.specs.Asked.{AreEachOnce, most_waiting}
 
 -- the map has the number of each id, and of no other
 abbrev pub AreRequestNumbers : tree.BTreeMap (List ℕ) ℕ → List (List ℕ) → Type 0
@@ -16,5 +16,5 @@ AreRequestNumbers numbers ids =
 pub record AreKept (asked : List (List ℕ)) (taken : ℕ) (numbers : tree.BTreeMap (List ℕ) ℕ) : Type 0 where
   pub within : taken ≤ length asked
   pub few : length asked ≤ taken + most_waiting
-  pub distinct : AreDistinct asked
+  pub distinct : AreEachOnce asked
   pub numbered : AreRequestNumbers numbers asked

@@ -10,7 +10,7 @@ ghost use Rattle.std.specs.Cmp.Lexicographic.{slice_cmp};
 ghost use Rattle.std.specs.BTreeMap as tree;
 ghost use Rattle.object_stream.specs.BatchEntry.{object_entry};
 ghost use Rattle.object_stream.specs.TypedObject.{typed_id};
-ghost use Rattle.object_requests.specs.Asked.{AreDistinct, Asked, most_waiting, request_line};
+ghost use Rattle.object_requests.specs.Asked.{AreEachOnce, Asked, most_waiting, request_line};
 ghost use Rattle.object_requests.specs.Asked.{waiting, with_asked};
 ghost use Rattle.object_requests.specs.TakenEntry.{MayRefuseOldest, MayRefuseFor, Takes};
 ghost use Rattle.object_requests.specs.TakenEntry.{stream_error_for};
@@ -116,7 +116,7 @@ impl Requests {
     pub fn num_waiting(&self) -> usize
         ensures count { result ≡ length (waiting self.now) }
         ensures few { result ≤ most_waiting }
-        ensures distinct { AreDistinct self.now.asked }
+        ensures distinct { AreEachOnce self.now.asked }
     {
         self.asked.len() - self.taken
     }

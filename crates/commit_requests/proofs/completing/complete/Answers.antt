@@ -1,4 +1,4 @@
-use Rattle.std.proofs.Common.{ℕ, List, [], Option, subst, sym}
+use Rattle.std.proofs.Common.{ℕ, List, [], Option, Err, ap, subst, sym}
 use Rattle.std.proofs.lemmas.List.Elements.{All-nil}
 use Rattle.std.proofs.lemmas.Result.{IfErr-weaker, on_ok_weaker}
 use Rattle.std.specs.Io.KnownBytes.{prepend_known}
@@ -8,6 +8,7 @@ use Rattle.newer_commits.specs.CommitsOnTop.{CommitsOnTop}
 use Rattle.commit_requests.specs.Completion.{AddsInTurn, HaveIdsAmong, IsCompleteRefusal}
 use Rattle.commit_requests.specs.Gathering.{AreClosed}
 use Rattle.commit_requests.proofs.RefusalLemmas.{told_refused}
+use Rattle.commit_requests.proofs.StreamLemmas.{not_told_of_write, ok_is_no_error, same_error}
 use Rattle.commit_requests.proofs.TurnLemmas.{question_there}
 use Rattle.commit_requests.proofs.completing.complete.Goals as goal
 
@@ -81,7 +82,7 @@ returns-in-Ok-clause-there g c =
     c.add_all.ensures.all
 
 pub returns-in-Ok-clause-written : goal.returns-in-Ok-clause-written
-returns-in-Ok-clause-written g c = on_ok_weaker c.add_all.result (λ there. c.in-Ok.ensures.written) c.add_all.ensures.all
+returns-in-Ok-clause-written g c = λ other. c.in-Ok.ensures.written (ok_is_no_error _ _)
 
 pub returns-in-Ok-clause-read : goal.returns-in-Ok-clause-read
 returns-in-Ok-clause-read g c =
@@ -125,6 +126,14 @@ returns-in-Err-clause-asked g c = c.gather.ensures.asked c.num_waiting-some.ensu
 
 pub returns-in-Err-clause-added : goal.returns-in-Err-clause-added
 returns-in-Err-clause-added g c = ([], c.gather.ensures.commits, All-nil _)
+
+pub returns-in-Err-clause-written : goal.returns-in-Err-clause-written
+returns-in-Err-clause-written g c =
+    λ other.
+    c.in-Err.ensures.written
+    (λ is.
+    not_told_of_write c.args.ids.now c.in-Err.error c.told_of.result c.told_of.ensures (λ same. other (ap (λ e. Err e) same))
+    (same_error _ _ is))
 
 pub returns-in-Err-clause-refused : goal.returns-in-Err-clause-refused
 returns-in-Err-clause-refused g c =

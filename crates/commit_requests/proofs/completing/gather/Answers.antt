@@ -1,4 +1,4 @@
-use Rattle.std.proofs.Common.{◌≡◌, ◌<◌, ◌∙◌, ◌∷◌, [], ℕ, List, Option, ap, arith, length, map, refl, subst, sym, take}
+use Rattle.std.proofs.Common.{◌≡◌, ◌<◌, ◌∙◌, ◌∷◌, [], ℕ, List, Option, Err, ap, arith, length, map, refl, subst, sym, take}
 use Rattle.std.proofs.lemmas.List.{length-append}
 use Rattle.std.specs.Io.KnownBytes.{Appends, Consumes, prepend_known}
 use Rattle.gix_hash_core.specs.declared.kind.Kind.{Kind}
@@ -10,7 +10,7 @@ use Rattle.commit_requests.specs.Requested.{commit_entries, request_lines}
 use Rattle.commit_requests.proofs.GatherLemmas.{all_taken, are_asked_for, asked_none, begins, gathering_asks, gathering_ends}
 use Rattle.commit_requests.proofs.GatherLemmas.{gathering_reads, question_ends, some_waits, still_asked_for}
 use Rattle.commit_requests.proofs.RefusalLemmas.{ask_refused, take_refused, want_refused}
-use Rattle.commit_requests.proofs.StreamLemmas.{appends_kept, entries_none, lines_none}
+use Rattle.commit_requests.proofs.StreamLemmas.{appends_kept, entries_none, lines_none, ok_is_no_error, same_error}
 use Rattle.commit_requests.proofs.completing.gather.Goals as goal
 
 pub returns-in-Err-clause-asked : goal.returns-in-Err-clause-asked
@@ -22,6 +22,10 @@ returns-in-Err-clause-asked g c =
 
 pub returns-in-Err-clause-few : goal.returns-in-Err-clause-few
 returns-in-Err-clause-few g c = omega (arith, ap length c.requires.none)
+
+pub returns-in-Err-clause-written : goal.returns-in-Err-clause-written
+returns-in-Err-clause-written g c =
+    λ other. lines_none (g.W.Write.contents c.args.writer.now) c.args.requests.now.asked c.requires.none
 
 pub returns-in-Err-clause-refused : goal.returns-in-Err-clause-refused
 returns-in-Err-clause-refused g c =
@@ -74,6 +78,12 @@ returns-in-Err-ask_ahead-clause-asked g c =
 
 pub returns-in-Err-ask_ahead-clause-few : goal.returns-in-Err-ask_ahead-clause-few
 returns-in-Err-ask_ahead-clause-few g c = omega (arith, c.in-Err-ask_ahead.ensures.few, c.most_asked-most.ensures)
+
+pub returns-in-Err-ask_ahead-clause-written : goal.returns-in-Err-ask_ahead-clause-written
+returns-in-Err-ask_ahead-clause-written g c =
+    λ other.
+    c.in-Err-ask_ahead.ensures.written (λ is. other (ap (λ e. Err e) (same_error _ _ is)))
+    (g.W.Write.contents c.args.writer.now) c.asking.invariant.written
 
 pub returns-in-Err-ask_ahead-clause-refused : goal.returns-in-Err-ask_ahead-clause-refused
 returns-in-Err-ask_ahead-clause-refused g c =
@@ -142,7 +152,8 @@ returns-then-waiting-eq0-clause-question g c =
 
 pub returns-then-waiting-eq0-clause-written : goal.returns-then-waiting-eq0-clause-written
 returns-then-waiting-eq0-clause-written g c =
-    c.in-Ok-ask_ahead.ensures.written (g.W.Write.contents c.args.writer.now) c.asking.invariant.written
+    λ other.
+    c.in-Ok-ask_ahead.ensures.written (ok_is_no_error _ _) (g.W.Write.contents c.args.writer.now) c.asking.invariant.written
 
 pub returns-then-waiting-eq0-clause-read : goal.returns-then-waiting-eq0-clause-read
 returns-then-waiting-eq0-clause-read g c =
@@ -190,6 +201,18 @@ returns-in-Err-take-clause-asked g c =
 pub returns-in-Err-take-clause-few : goal.returns-in-Err-take-clause-few
 returns-in-Err-take-clause-few g c =
     omega (arith, ap length c.in-Err-take.ensures.asked, c.in-Ok-ask_ahead.ensures.few, c.most_asked-most.ensures)
+
+pub returns-in-Err-take-clause-written : goal.returns-in-Err-take-clause-written
+returns-in-Err-take-clause-written g c =
+    let begin : Option (List ℕ) = g.W.Write.contents c.args.writer.now in
+    let next : Asked = c.ask_ahead.new.requests in
+    let lines : Appends begin (g.W.Write.contents c.ask_ahead.new.writer) (request_lines next.asked) =
+    c.in-Ok-ask_ahead.ensures.written (ok_is_no_error _ _) begin c.asking.invariant.written in
+    λ other.
+    subst (λ (xs : List (List ℕ)). Appends begin (g.W.Write.contents c.take.new.writer) (request_lines xs))
+    (sym c.in-Err-take.ensures.asked)
+    (appends_kept begin (g.W.Write.contents c.ask_ahead.new.writer) (g.W.Write.contents c.take.new.writer)
+    (request_lines next.asked) lines (c.in-Err-take.ensures.written (λ is. other (ap (λ e. Err e) (same_error _ _ is)))))
 
 pub returns-in-Err-take-clause-refused : goal.returns-in-Err-take-clause-refused
 returns-in-Err-take-clause-refused g c =
@@ -272,7 +295,7 @@ asking-preserved g c =
     let begin : Option (List ℕ) = g.W.Write.contents c.args.writer.now in
     let rest : Option (List ℕ) = g.R.Read.remaining c.take.new.reader in
     let lines : Appends begin (g.W.Write.contents c.ask_ahead.new.writer) (request_lines next.asked) =
-    c.in-Ok-ask_ahead.ensures.written begin c.asking.invariant.written in
+    c.in-Ok-ask_ahead.ensures.written (ok_is_no_error _ _) begin c.asking.invariant.written in
     record {
       known = c.in-Ok-take.ensures.known ∙ c.asking.invariant.known;
       facts = c.in-Ok-take.ensures.facts ∙ c.asking.invariant.facts;
@@ -298,7 +321,7 @@ asking-preserved g c =
       written = subst (λ (xs : List (List ℕ)). Appends begin (g.W.Write.contents c.take.new.writer) (request_lines xs))
           (sym c.in-Ok-take.ensures.asked)
           (appends_kept begin (g.W.Write.contents c.ask_ahead.new.writer) (g.W.Write.contents c.take.new.writer)
-          (request_lines next.asked) lines c.in-Ok-take.ensures.written);
+          (request_lines next.asked) lines (c.in-Ok-take.ensures.written (ok_is_no_error _ _)));
       read = subst (λ (k : Kind). Consumes bytes (prepend_known that.ahead rest) (commit_entries k more)) c.asking.invariant.kind
           (c.in-Ok-take.ensures.bytes bytes
           (subst (λ (k : Kind). Consumes bytes here (commit_entries k held)) (sym c.asking.invariant.kind) eaten));

@@ -3,6 +3,7 @@ use Rattle.std.proofs.lemmas.List.{length-append}
 use Rattle.std.proofs.lemmas.List.Elements.{All-head}
 use Rattle.object_requests.specs.Asked.{Asked}
 use Rattle.commit_requests.proofs.GatherLemmas.{asks_none, asks_step, count_all, few_step, still_all, still_step}
+use Rattle.commit_requests.proofs.StreamLemmas.{ok_is_no_error}
 use Rattle.commit_requests.proofs.gather.Gathered.ask_ahead.Goals as goal
 
 pub loop-self-init : goal.loop-self-init
@@ -52,7 +53,8 @@ loop-self-preserved g c =
       few = few_step asked after id count most c.in-Ok.ensures.asked is c.loop-self.invariant.few;
       wanted = still_step start asked after wanted rest id count most c.loop-self.invariant.wanted first c.in-Ok.ensures.asked
           c.in-Ok.ensures.done;
-      written = λ begin appended. c.in-Ok.ensures.written begin (c.loop-self.invariant.written begin appended);
+      written = λ begin appended.
+          c.in-Ok.ensures.written (ok_is_no_error _ _) begin (c.loop-self.invariant.written begin appended);
     }
 
 pub returns-in-Err-clause-asked : goal.returns-in-Err-clause-asked
@@ -65,3 +67,7 @@ returns-in-Err-clause-asked g c =
     (subst (All (Contains start)) c.in-Some.ensures.items c.loop-self.invariant.wanted.none) in
     asks_step c.args.requests.now.asked c.loop-self.requests.asked c.ask_one.new.requests.asked start id
     (c.len.result + c.num_waiting.result) c.args.most c.loop-self.invariant.asked contained c.in-Err.ensures.asked
+
+pub returns-in-Err-clause-written : goal.returns-in-Err-clause-written
+returns-in-Err-clause-written g c =
+    λ other begin appended. c.in-Err.ensures.written other begin (c.loop-self.invariant.written begin appended)

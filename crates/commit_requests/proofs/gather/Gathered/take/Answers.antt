@@ -1,11 +1,11 @@
-use Rattle.std.proofs.Common.{◌≡◌, ◌∙◌, ◌++◌, ◌∷◌, [], ℕ, List, Option, Some, ap, slice_get, subst, sym}
+use Rattle.std.proofs.Common.{◌≡◌, ◌∙◌, ◌++◌, ◌∷◌, [], ℕ, List, Option, Some, Err, ap, slice_get, subst, sym}
 use Rattle.std.specs.Io.KnownBytes.{prepend_known}
 use Rattle.commit_objects.specs.CommitContents.{Said, Says}
 use Rattle.commit_objects.specs.Object.{object_id_of}
 use Rattle.object_requests.specs.Asked.{Asked}
 use Rattle.commit_requests.specs.Gathering.{IsTakeRefusal, WantsMore}
 use Rattle.commit_requests.proofs.RefusalLemmas.{request_refused, want_taken}
-use Rattle.commit_requests.proofs.StreamLemmas.{commit_id, entry_next}
+use Rattle.commit_requests.proofs.StreamLemmas.{commit_id, entry_next, not_of_write, ok_is_no_error, same_error}
 use Rattle.commit_requests.proofs.gather.Gathered.take.Goals as goal
 
 pub returns-in-Err-clause-refused : goal.returns-in-Err-clause-refused
@@ -16,6 +16,26 @@ returns-in-Err-clause-refused g c =
     let known : Option (List ℕ) = prepend_known r.ahead (g.R.Read.remaining c.args.reader.now) in
     subst (IsTakeRefusal old.kind may_fail r.asked r.taken known) (sym c.error_of_request.ensures)
     (request_refused old.kind may_fail r known c.in-Err.error c.requires.commits c.requires.kind c.in-Err.ensures.refused)
+
+pub returns-in-Err-clause-written : goal.returns-in-Err-clause-written
+returns-in-Err-clause-written g c =
+    λ other.
+    c.in-Err.ensures.written
+    (λ is.
+    not_of_write c.in-Err.error c.error_of_request.result c.error_of_request.ensures (λ same. other (ap (λ e. Err e) same))
+    (same_error _ _ is))
+
+pub returns-in-Err-parse-clause-written : goal.returns-in-Err-parse-clause-written
+returns-in-Err-parse-clause-written g c = λ other. c.in-Ok.ensures.written (ok_is_no_error _ _)
+
+pub returns-in-Err-want_parents-clause-written : goal.returns-in-Err-want_parents-clause-written
+returns-in-Err-want_parents-clause-written g c = λ other. c.in-Ok.ensures.written (ok_is_no_error _ _)
+
+pub returns-in-Err-push-clause-written : goal.returns-in-Err-push-clause-written
+returns-in-Err-push-clause-written g c = λ other. c.in-Ok.ensures.written (ok_is_no_error _ _)
+
+pub returns-in-Ok-push-clause-written : goal.returns-in-Ok-push-clause-written
+returns-in-Ok-push-clause-written g c = λ other. c.in-Ok.ensures.written (ok_is_no_error _ _)
 
 pub returns-in-Err-parse-clause-refused : goal.returns-in-Err-parse-clause-refused
 returns-in-Err-parse-clause-refused g c =

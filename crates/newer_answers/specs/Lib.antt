@@ -1,0 +1,3 @@
+pub mod AnswersOnTop
+pub mod AnswersByDates
+pub mod FoundOnTop

@@ -1,0 +1,115 @@
+-- What a search finds over a base in memory and newer commits is so of the history of all of them.
+use Rattle.std.proofs.Common.{◌≡◌, ℕ, List, [], ◌∷◌, Bool, Option, Some, None, Vec, inl, inr, subst, sym}
+use Rattle.std.specs.Prelude.{slice_get}
+use Rattle.std.specs.Global.{Global}
+use Rattle.std.specs.List.{AllZip}
+use Rattle.graph_walks.specs.Walks.{CountWalks}
+use Rattle.graph_format.specs.Layer.{Layer}
+use Rattle.graph_format.specs.StoredHistory.{history_of}
+use Rattle.gix_commitgraph.specs.Graph.{graph_ids}
+use Rattle.commit_search.specs.Positions.{numbers_of}
+use Rattle.commit_search.specs.Source.{Told, told_of}
+use Rattle.answers.specs.FoundOf.{IsFoundOf, OfFirst, OfTwo, known_map, listed_comparison, listed_walk}
+use Rattle.answers.specs.declared.answer.Answer.{Answer}
+use Rattle.answers.specs.declared.comparison.IdComparison.{IdComparison}
+use Rattle.answers.proofs.FoundLemmas.{all_so, found_as, found_same, two_so}
+use Rattle.answer_lines.specs.declared.reply.Reply.TheVariants as reply
+use Rattle.history_commands.specs.CheckedReplies.{Scans}
+use Rattle.question_lines.specs.declared.question.Question.{Question}
+use Rattle.question_lines.specs.declared.question.Question.TheVariants as question
+use Rattle.newer_commits.specs.CommitsOnTop.{CommitsOnTop}
+use Rattle.newer_commits.specs.Finding.{Finds, HasId}
+use Rattle.newer_answers.specs.AnswersOnTop.{IsComparedOnTop, IsToldOnTop, IsWalkOnTop}
+use Rattle.newer_commands.specs.RepliesOnTop.{AreBasesOver, HasIdOver, IsReplyOver, IsToldOver, IsWalkOver}
+use Rattle.newer_commands.proofs.OnBaseLemmas.{finds_as}
+
+-- The layers of the base, its lookup and its ids as a contract knows them, and what it says.
+module _ (layers : List Layer) (base : List ℕ → Option ℕ → Type 0) (has_id : ℕ → List ℕ → Type 0) (says : Told → Type 0)
+    (top : CommitsOnTop) (scans : (id : List ℕ) (answer : Option ℕ) → base id answer → Scans layers id answer)
+    (own : (p : ℕ) (id : List ℕ) → has_id p id → slice_get (graph_ids layers) p ≡ Some id)
+    (said : says (told_of layers)) (counts : CountWalks (history_of layers)) where
+  id_over : (p : ℕ) (id : List ℕ) → HasId has_id top p id → HasIdOver layers top p id
+  id_over p id (inl below) = inl (below.0, own p id below.1)
+  id_over p id (inr newer) = inr newer
+
+  ids_over : (places : List ℕ) (ids : List (List ℕ)) → AllZip (HasId has_id top) places ids
+      → AllZip (HasIdOver layers top) places ids
+  ids_over [] [] zipped = tt
+  ids_over [] (id ∷ ids) zipped = absurd zipped
+  ids_over (p ∷ places) [] zipped = absurd zipped
+  ids_over (p ∷ places) (id ∷ ids) zipped = (id_over p id zipped.0, ids_over places ids zipped.1)
+
+  told_over : (p q : ℕ) (told : Bool) → IsToldOnTop says top p q told → IsToldOver layers top p q told
+  told_over p q told so = (λ yes. so.yes (told_of layers) said yes, λ reaches. so.no (told_of layers) said counts reaches)
+
+  walk_over : (p q : ℕ) (walk : Option (Vec (List ℕ) Global)) → IsWalkOnTop says has_id top p q walk
+      → IsWalkOver layers top p q (listed_walk walk)
+  walk_over p q (Some ids) so = (so.0, so.1.shortest (told_of layers) said counts, ids_over so.0 ids.items so.2)
+  walk_over p q None so = so (told_of layers) said counts
+
+  bases_over : (p : ℕ) (others : List ℕ) (known : IdComparison (Vec (List ℕ) Global))
+      → IsComparedOnTop says has_id top p others known → AreBasesOver layers top p others (listed_comparison known)
+  bases_over p others known so = (
+    so.0.exact (told_of layers) said counts,
+    ids_over (numbers_of known.comparison.bases.positions.items) known.base_ids.items so.1,
+  )
+
+  same_found : (id : List ℕ) (answer : Option ℕ) → Finds base top id answer → Finds (Scans layers) top id answer
+  same_found id answer found = finds_as base (Scans layers) scans top id answer found
+
+  pub told_found : (ids : List (List ℕ)) (answer : Answer Bool)
+      → IsFoundOf (Finds base top) (OfTwo (IsToldOnTop says top)) ids answer
+      → IsFoundOf (Finds (Scans layers) top) (OfTwo (IsToldOver layers top)) ids answer
+  told_found ids answer found =
+      found_same (Finds base top) (Finds (Scans layers) top) same_found (OfTwo (IsToldOnTop says top))
+      (OfTwo (IsToldOver layers top)) ids answer
+      (λ positions known so. two_so (λ told. told) (IsToldOnTop says top) (IsToldOver layers top) told_over positions known so)
+      found
+
+  pub walk_found : (ids : List (List ℕ)) (answer : Answer (Option (Vec (List ℕ) Global)))
+      → IsFoundOf (Finds base top) (OfTwo (IsWalkOnTop says has_id top)) ids answer
+      → IsFoundOf (Finds (Scans layers) top) (OfTwo (IsWalkOver layers top)) ids (known_map listed_walk answer)
+  walk_found ids answer found =
+      found_as (Finds base top) (Finds (Scans layers) top) same_found (OfTwo (IsWalkOnTop says has_id top))
+      (OfTwo (IsWalkOver layers top)) ids listed_walk answer
+      (λ positions known so.
+      two_so listed_walk (IsWalkOnTop says has_id top) (IsWalkOver layers top) walk_over positions known so)
+      found
+
+  pub bases_found : (ids : List (List ℕ)) (answer : Answer (IdComparison (Vec (List ℕ) Global)))
+      → IsFoundOf (Finds base top) (OfFirst (IsComparedOnTop says has_id top)) ids answer
+      → IsFoundOf (Finds (Scans layers) top) (OfFirst (AreBasesOver layers top)) ids (known_map listed_comparison answer)
+  bases_found ids answer found =
+      found_as (Finds base top) (Finds (Scans layers) top) same_found (OfFirst (IsComparedOnTop says has_id top))
+      (OfFirst (AreBasesOver layers top)) ids listed_comparison answer
+      (λ positions known so.
+      all_so listed_comparison (IsComparedOnTop says has_id top) (AreBasesOver layers top) bases_over positions known so)
+      found
+
+-- What is found is the reply to the question.
+module _ (layers : List Layer) (top : CommitsOnTop) (asked : Question) where
+  pub told_reply : (first second : List ℕ) (ids : List (List ℕ)) (answer : Answer Bool) → asked ≡ question.IsAncestor first second
+      → ids ≡ first ∷ second ∷ [] → IsFoundOf (Finds (Scans layers) top) (OfTwo (IsToldOver layers top)) ids answer
+      → IsReplyOver layers top asked (reply.Told answer)
+  told_reply first second ids answer is same found =
+      subst (λ (q : Question). IsReplyOver layers top q (reply.Told answer)) (sym is)
+      (subst (λ (those : List (List ℕ)). IsFoundOf (Finds (Scans layers) top) (OfTwo (IsToldOver layers top)) those answer) same
+      found)
+
+  pub walk_reply : (first second : List ℕ) (ids : List (List ℕ)) (answer : Answer (Option (List (List ℕ))))
+      → asked ≡ question.Walk first second → ids ≡ first ∷ second ∷ []
+      → IsFoundOf (Finds (Scans layers) top) (OfTwo (IsWalkOver layers top)) ids answer
+      → IsReplyOver layers top asked (reply.Walk answer)
+  walk_reply first second ids answer is same found =
+      subst (λ (q : Question). IsReplyOver layers top q (reply.Walk answer)) (sym is)
+      (subst (λ (those : List (List ℕ)). IsFoundOf (Finds (Scans layers) top) (OfTwo (IsWalkOver layers top)) those answer) same
+      found)
+
+  pub bases_reply : (first : List ℕ) (others : Vec (List ℕ) Global) (ids : List (List ℕ))
+      (answer : Answer (IdComparison (List (List ℕ)))) → asked ≡ question.MergeBase first others → ids ≡ first ∷ others.items
+      → IsFoundOf (Finds (Scans layers) top) (OfFirst (AreBasesOver layers top)) ids answer
+      → IsReplyOver layers top asked (reply.Compared answer)
+  bases_reply first others ids answer is same found =
+      subst (λ (q : Question). IsReplyOver layers top q (reply.Compared answer)) (sym is)
+      (subst (λ (those : List (List ℕ)). IsFoundOf (Finds (Scans layers) top) (OfFirst (AreBasesOver layers top)) those answer)
+      same found)
