@@ -13,7 +13,10 @@ PROGRAMS = {"graphtool": "", "historytool": " | --help | --version"}
 """The programs, each with what stands behind the commands in its usage text."""
 
 ROW = re.compile(r"^\| `(\w+) ([a-z-]+)((?: [^`]+)?)` \| (.*) \| (yes|no) \|$", re.MULTILINE)
-READS = {"": "input", " PATH": "path", " [PATH]": "optional", " [--unchecked] PATH": "trusted"}
+READS = {
+    **{"": "input", " PATH": "path", " [PATH]": "optional", " [--unchecked] PATH": "trusted"},
+    " [--unchecked|--newer] PATH": "newer",
+}
 """What a command reads, by the words before its ids."""
 
 IDS = re.compile(r"((?: HEX)*(?:\.\.)?| \[FROM TO\])$")
@@ -40,7 +43,7 @@ class Command(NamedTuple):
 
 def commands_of(document) -> List[Command]:
     """The commands, as the rows of the document have them."""
-    return [Command(*found) for found in ROW.findall(document)]
+    return [Command(*found) for found in ROW.findall(document.replace("\\|", "|"))]
 
 
 def made(texts):

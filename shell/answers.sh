@@ -3,7 +3,7 @@
 
 newline='
 '
-passes=pass_on cause='' where='' advice='' opened=''
+passes=pass_on place='in the graph' cause='' where='' advice='' opened=''
 
 # Says one line on standard error.
 say() {
@@ -74,6 +74,15 @@ pass_bytes_on() {
     fi
 }
 
+# As `pass_on`, behind the ids of commits that are asked for, and the empty line that ends them.
+pass_ids_on() {
+    while IFS= read -r id; do
+        printf '%s\n' "$id"
+        [ -n "$id" ] || break
+    done
+    pass_on
+}
+
 # Sets `line`, `status` and `said` from the lines of what was told of a program.
 take_apart() {
     rest=$1$newline
@@ -136,6 +145,7 @@ look_at_graph() {
     'unknown '*)
         shift 2
         cause=$(lacked "${line#unknown }" "$@")
+        [ "$place" = 'in the graph' ] || advice="see what 'git fsck' says"
         return
         ;;
     'refused '*) [ -n "$asked_path" ] || return 0 ;;
@@ -154,14 +164,14 @@ look_at_graph() {
     esac
 }
 
-# The sentence that an id is not in the graph: lacked NUMBER ID..
+# The sentence that an id is not there, in the graph or in the repository: lacked NUMBER ID..
 lacked() {
     lacks=$1
     shift "$lacks"
     if [ "$lacks" -eq 1 ]; then
-        echo "$1 is not in the graph"
+        echo "$1 is not $place"
     else
-        echo "$1 is not in the graph; the ids given before it are"
+        echo "$1 is not $place; the ids given before it are"
     fi
 }
 
@@ -302,9 +312,10 @@ signal_named() {
     esac
 }
 
-# The id of the commit at the position that a refusal names, where the layers can be listed.
+# The id of the commit of which a refusal speaks: that which it has, or that at its position, where the layers can be listed.
 commit_at() {
     case $line in
+    'refused newer '*' id '*) printf '%s\n' "${line##* id }" ;;
     'refused '*' position '*)
         position=${line#* position }
         list_layers "$1" 2>/dev/null |

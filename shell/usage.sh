@@ -28,6 +28,14 @@ takes_ids() {
     esac
 }
 
+# Whether a word is an id in hexadecimal.
+is_id() {
+    case $1 in
+    *[!0-9a-fA-F]*) return 1 ;;
+    esac
+    [ ${#1} -eq 40 ] || [ ${#1} -eq 64 ]
+}
+
 # Whether a word is a command of the program `name`.
 is_own() {
     look_up "$1" && [ "$tool" = "$name" ]
@@ -37,11 +45,19 @@ is_own() {
 is_command() {
     [ $# -gt 0 ] && is_own "$1" || return 1
     shift
-    [ "$reads,${1-}" != trusted,--unchecked ] || shift
+    case $reads,${1-} in
+    trusted,--unchecked | newer,--unchecked) shift ;;
+    newer,--newer)
+        shift
+        is_id "${1-}" || [ $# -eq 0 ] || shift
+        takes_ids $#
+        return
+        ;;
+    esac
     case $reads,$# in
-    path,0 | trusted,0) return 1 ;;
+    path,0 | trusted,0 | newer,0) return 1 ;;
     optional,0) ;;
-    path,* | trusted,* | optional,*) shift ;;
+    path,* | trusted,* | newer,* | optional,*) shift ;;
     esac
     takes_ids $#
 }
@@ -69,6 +85,7 @@ usage() {
             printf "%s %s", count++ ? " |" : "usage: " name, $1
             if ($3 == "path") printf " PATH"
             if ($3 == "trusted") printf " [--unchecked] PATH"
+            if ($3 == "newer") printf " [--unchecked|--newer] PATH"
             if ($3 == "optional") printf " [PATH]"
             for (id = 1; id <= $4 + 0; id++) printf " HEX"
             if ($4 ~ /\+/) printf ".."
@@ -89,6 +106,8 @@ END
     if [ "$name" = historytool ]; then
         echo 'FROM and TO are positions: the first one, and the one after the last.'
         echo 'With --unchecked the graph is trusted: it is read by parts, and not checked.'
+        echo 'With --newer the commits that the graph lacks are asked for, by their ids, on'
+        echo 'standard output, and read from standard input. PATH may be left out then.'
     fi
     echo
     awk -v name="$name" '

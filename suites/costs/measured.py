@@ -94,7 +94,7 @@ class Counter:
         """What the command of a row costs, whose answer has to be right."""
         given, wanted = row.given(shape) if row.given else os.devnull, asking.text_of(row, shape)
         run = self.run(asking.words_of(programs, row, shape), given=given)
-        complaint = answers.complaint(wanted, 1 if wanted in (b"no\n", b"none\n") else 0, (run.returncode, run.stdout + run.stderr))
+        complaint = answers.complaint(wanted, answers.status(wanted), (run.returncode, run.stdout + run.stderr))
         if complaint:
             raise Wrong(complaint)
         read = os.path.getsize(given) if row.given else 0

@@ -101,6 +101,11 @@ def parents(shape, number):
     return " ".join(["parents", *map(shape.plan.hex, shape.plan.parents[number])]) + "\n"
 
 
+def status(wanted):
+    """The exit status of a command that answers these bytes: 1 after `no` and `none`."""
+    return 1 if wanted.rpartition(b"\n")[0].rpartition(b"\n")[2] in (b"no", b"none") else 0
+
+
 def complaint(wanted, status, told):
     """What is wrong with the exit status and the bytes that were written, or None. A line `visits 3-9` of what is wanted stands for all
     numbers from 3 to 9."""

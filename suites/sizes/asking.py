@@ -37,9 +37,8 @@ def words_of(programs, row, shape):
 def ask_command(programs, row, shape):
     """A complaint about the answer of a command, or None."""
     wanted = text_of(row, shape)
-    status = 1 if wanted in (b"no\n", b"none\n") else 0
     told = run(words_of(programs, row, shape), row.given(shape) if row.given else os.devnull)
-    return answers.complaint(wanted, status, told)
+    return answers.complaint(wanted, answers.status(wanted), told)
 
 
 def ask_rust(programs, row, shape):

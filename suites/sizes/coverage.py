@@ -11,15 +11,17 @@ WORD = re.compile(r'word == b"([a-z-]+)"')
 
 
 def all_names():
-    """The names that the rows of a table have to have: of the commands, of those with `--unchecked`, of the questions, and of the calls
+    """The names that the rows of a table have to have: of the commands, of those with `--unchecked` and `--newer`, of the questions, and of the calls
     that the header declares."""
     for command in commands():
         if command.word == "ask":
             yield from ("ask " + word for word in questions())
             continue
         yield command.word
-        if command.reads == "trusted":
+        if command.may_be_unchecked():
             yield command.word + " --unchecked"
+        if command.reads == "newer":
+            yield command.word + " --newer"
     yield from library.names()
 
 

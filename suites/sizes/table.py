@@ -6,6 +6,7 @@ A row of a command has its words, and a function each for what standard input ha
 and gives what was answered beside what it has to be. A call of Rust is made by `test_calls`, in a folder with the files that it needs.
 """
 
+import collections
 import ctypes
 from typing import Any, Callable, NamedTuple, Tuple
 
@@ -68,6 +69,71 @@ def last(shape):
 def path(*more):
     """The words of a command that takes a path, and then what these functions give."""
     return lambda shape: [shape.path, *(word for part in more for word in part(shape))]
+
+
+def gathered(shape, numbers, known=()):
+    """The commits that are asked for where these are in a question, in order: those that are not known, and all that they lead to."""
+    wanted, asked, seen = collections.deque(numbers), [], set(known)
+    while wanted:
+        number = wanted.popleft()
+        if number not in seen:
+            seen.add(number)
+            asked.append(number)
+            wanted.extend(shape.plan.parents[number])
+    return asked
+
+
+class Newer(NamedTuple):
+    """A question about newer commits, of which these functions give the numbers, and what is answered once they were asked for. They
+    stand on no graph, or on that of the shape, and are those of the new layer then."""
+
+    numbers: Callable[..., Any]
+    answer: Callable[..., Any]
+    on_graph: bool = False
+
+    def row(self, name, shapes):
+        """Its row."""
+        return Row(name, shapes, self.ask, self.text, self.given)
+
+    def ask(self, shape):
+        """The words."""
+        return [shape.path] * self.on_graph + hexes(shape, *self.numbers(shape))
+
+    def gathered(self, shape):
+        """The commits that are asked for."""
+        return gathered(shape, self.numbers(shape), range(shape.count) if self.on_graph else ())
+
+    def text(self, shape):
+        """The lines that ask for them, an empty one, and the answer."""
+        return answers.lines([*hexes(shape, *self.gathered(shape)), ""]) + "".join(self.answer(shape))
+
+    def given(self, shape):
+        """The file with their entries."""
+        place = "on the graph" if self.on_graph else "alone"
+        return shape.stream(" ".join(["newer", place, *map(str, self.numbers(shape)[:2])]), self.gathered(shape))
+
+
+def newest(shape):
+    """The oldest commit on the walk, and the last one of the new layer."""
+    return [shape.walk[-1], shape.plan.count - 1]
+
+
+def newest_first(shape):
+    """The same two, the last one first."""
+    return newest(shape)[::-1]
+
+
+def oldest(shape):
+    """The line of the id of the oldest commit on the walk."""
+    return answers.ids(shape, shape.walk[-1:])
+
+
+def compared_newest(shape):
+    """What the last commit of the new layer and the oldest on the walk, to which it leads, have in common."""
+    last, first = newest_first(shape)
+    ahead = len(gathered(shape, [last])) - len(gathered(shape, [first]))
+    base = "base %d %s" % (shape.plan.positions[first], shape.plan.hex(first))
+    return answers.lines([base, "ahead %d behind 0" % ahead, "visits %d-%d" % (ahead, 3 * shape.plan.count)])
 
 
 def yes(shape):
@@ -169,9 +235,15 @@ COMMANDS = (
     Row("is-ancestor: no", UNREAD, path(apart), no),
     Row("is-ancestor --unchecked", EACH, path(below), yes),
     Row("is-ancestor --unchecked: no", EACH, path(apart), no),
+    Newer(lambda shape: [shape.walk[-1], shape.walk[0]], yes).row("is-ancestor --newer", UNREAD),
+    Newer(lambda shape: shape.apart, no).row("is-ancestor --newer: no", UNREAD),
+    Newer(newest, yes, on_graph=True).row("is-ancestor --newer: on a graph", UNREAD),
     Row("walk", UNREAD, path(ends), walked),
     Row("walk: none", UNREAD, path(reversed_pair), none),
     Row("walk --unchecked", EACH, path(ends), walked),
+    Newer(lambda shape: [shape.walk[0], shape.walk[-1]], walked).row("walk --newer", UNREAD),
+    Newer(newest_first, compared_newest, on_graph=True).row("merge-base --newer", UNREAD),
+    Newer(newest_first, oldest).row("merge-base-ids --newer", UNREAD),
     Row("merge-base", UNREAD, path(asked_bases), answers.compared),
     Row("merge-base --unchecked", EACH, path(asked_bases), answers.compared),
     Row("merge-base-ids", UNREAD, path(asked_bases), bases),

@@ -1,21 +1,34 @@
 -- Which names ask for commands, by the number of words after them.
-use Rattle.std.proofs.Common.{◌≡◌, ◌≢◌, ◌⊎◌, ℕ, ◌-◌, ◌<◌, ◌≤◌, List, [], ◌∷◌, length, map, get_or, take, drop}
+use Rattle.std.proofs.Common.{◌≡◌, ◌⊎◌, ℕ, ◌-◌, ◌<◌, ◌≤◌, List, [], ◌∷◌, length, map, get_or, take, drop}
 use Rattle.std.proofs.Common.{inl, inr, refl, sym, ap, subst, string_bytes, ◌∙◌, arith}
 use Rattle.std.proofs.lemmas.List.{length-map, take_all}
-use Rattle.std.specs.Prelude.{String, Bool, true, false, Option, Some, None, IfSome, codes}
+use Rattle.hex.proofs.HexLemmas.{decode_of-ok}
+use Rattle.gix_hash_core.specs.Hexadecimal.{SpellsId, SpellsNone}
+use Rattle.gix_hash_core.specs.declared.object_id.IdError.{IdError}
+use Rattle.gix_hash_core.specs.declared.object_id.IdError.TheVariants.{Length, Digit}
+use Rattle.std.specs.Prelude.{◌↔◌, String, Option, Some, None, IfSome, IfOk, IfErr, IsTrue, codes}
+use Rattle.std.specs.Prelude.{Bool, Result, Ok, Err, is_ok}
 use Rattle.std.specs.Global.{Global}
 use Rattle.object_commands.specs.AskedRange.{SpellsRange}
 use Rattle.object_commands.specs.declared.range.PositionRange.{PositionRange}
-use Rattle.historytool.specs.HistorytoolCommands.{AreQuestionWords, AskAfterName, AskHistorytool}
+use Rattle.historytool.specs.HistorytoolCommands.{AreQuestionWords, AskAfterName, AskHistorytool, IsId, IsOption}
+use Rattle.historytool.specs.declared.command.AskedGraph.{AskedGraph}
+use Rattle.historytool.specs.declared.command.AskedGraph.TheVariants as on
 use Rattle.historytool.specs.declared.command.Command.{Command}
 use Rattle.historytool.specs.declared.command.Command.TheVariants as command
 
+-- the two words that say how a graph is asked are not the same
+apart : codes "--unchecked" ≡ codes "--newer" → ⊥
+apart same = cc
+
 -- the words of a question are its name and two more or others
-long : (name path one : List ℕ) (unchecked : Bool) (more words : List (List ℕ))
-    → AreQuestionWords name unchecked path (one ∷ more) words
+long : (name one : List ℕ) (graph : AskedGraph) (more words : List (List ℕ))
+    → AreQuestionWords name graph (one ∷ more) words
     → (second third : List ℕ) × (others : List (List ℕ)) × (words ≡ name ∷ second ∷ third ∷ others)
-long name path one false more words is = (path, one, more, is.0)
-long name path one true more words is = (codes "--unchecked", path, one ∷ more, is)
+long name one (on.Checked path) more words is = (path.now, one, more, is.0)
+long name one (on.Unchecked path) more words is = (codes "--unchecked", path.now, one ∷ more, is)
+long name one (on.Newer None) more words is = (codes "--newer", one, more, is.0)
+long name one (on.Newer (Some path)) more words is = (codes "--newer", path.now, one ∷ more, is.0)
 
 -- a name that asks alone
 pub named_alone : (help version name : List ℕ) (asked : Command) → AskAfterName help version (name ∷ []) asked
@@ -24,16 +37,16 @@ named_alone help version name (command.Help text) is = elim is.0 [ inl e ↦ inl
 named_alone help version name (command.Version text) is = let e = is.0 in inr (inr (inl cc))
 named_alone help version name (command.IsAncestor pair) is =
     let more = pair.second.now ∷ [] in
-    let e = (long (codes "is-ancestor") pair.path.now pair.first.now pair.unchecked more (name ∷ []) is).3 in cc
+    let e = (long (codes "is-ancestor") pair.first.now pair.graph more (name ∷ []) is).3 in cc
 named_alone help version name (command.Walk pair) is =
     let more = pair.second.now ∷ [] in
-    let e = (long (codes "walk") pair.path.now pair.first.now pair.unchecked more (name ∷ []) is).3 in cc
+    let e = (long (codes "walk") pair.first.now pair.graph more (name ∷ []) is).3 in cc
 named_alone help version name (command.MergeBase group) is =
     let more = map string_bytes group.others.now in
-    let e = (long (codes "merge-base") group.path.now group.first.now group.unchecked more (name ∷ []) is.0).3 in cc
+    let e = (long (codes "merge-base") group.first.now group.graph more (name ∷ []) is.0).3 in cc
 named_alone help version name (command.MergeBaseIds group) is =
     let more = map string_bytes group.others.now in
-    let e = (long (codes "merge-base-ids") group.path.now group.first.now group.unchecked more (name ∷ []) is.0).3 in cc
+    let e = (long (codes "merge-base-ids") group.first.now group.graph more (name ∷ []) is.0).3 in cc
 named_alone help version name (command.Check path) is = let e = is in cc
 named_alone help version name (command.Show path) is = let e = is in cc
 named_alone help version name (command.Ask path) is = let e = is.0 in cc
@@ -48,28 +61,28 @@ named_alone help version name (command.Merge path) is = let e = is in cc
 
 -- a name that asks with a path
 pub named_with_path : (help version name path : List ℕ) (asked : Command) → AskAfterName help version (name ∷ path ∷ []) asked
-    → (name ≡ codes "check") ⊎ (name ≡ codes "show") ⊎ ((name ≡ codes "ask") × (path ≢ codes "--unchecked"))
+    → (name ≡ codes "check") ⊎ (name ≡ codes "show") ⊎ ((name ≡ codes "ask") × (¬ IsOption path))
     ⊎ (name ≡ codes "ids") ⊎ (name ≡ codes "objects")
     ⊎ (name ≡ codes "write") ⊎ (name ≡ codes "merge")
 named_with_path help version name path (command.Help text) is = elim is.0 [ inl e ↦ cc | inr e ↦ cc ]
 named_with_path help version name path (command.Version text) is = let e = is.0 in cc
 named_with_path help version name path (command.IsAncestor pair) is =
     let more = pair.second.now ∷ [] in
-    let e = (long (codes "is-ancestor") pair.path.now pair.first.now pair.unchecked more (name ∷ path ∷ []) is).3 in cc
+    let e = (long (codes "is-ancestor") pair.first.now pair.graph more (name ∷ path ∷ []) is).3 in cc
 named_with_path help version name path (command.Walk pair) is =
     let more = pair.second.now ∷ [] in
-    let e = (long (codes "walk") pair.path.now pair.first.now pair.unchecked more (name ∷ path ∷ []) is).3 in cc
+    let e = (long (codes "walk") pair.first.now pair.graph more (name ∷ path ∷ []) is).3 in cc
 named_with_path help version name path (command.MergeBase group) is =
     let more = map string_bytes group.others.now in
-    let e = (long (codes "merge-base") group.path.now group.first.now group.unchecked more (name ∷ path ∷ []) is.0).3 in cc
+    let e = (long (codes "merge-base") group.first.now group.graph more (name ∷ path ∷ []) is.0).3 in cc
 named_with_path help version name path (command.MergeBaseIds group) is =
     let more = map string_bytes group.others.now in
-    let e = (long (codes "merge-base-ids") group.path.now group.first.now group.unchecked more (name ∷ path ∷ []) is.0).3 in cc
+    let e = (long (codes "merge-base-ids") group.first.now group.graph more (name ∷ path ∷ []) is.0).3 in cc
 named_with_path help version name path (command.Check at) is = let e = is in inl cc
 named_with_path help version name path (command.Show at) is = let e = is in inr (inl cc)
 named_with_path help version name path (command.Ask at) is =
     let e = is.0 in let same : at.now ≡ path = cc in
-    inr (inr (inl (cc, subst (λ (p : List ℕ). p ≡ codes "--unchecked" → ⊥) same is.1)))
+    inr (inr (inl (cc, subst (λ (p : List ℕ). ¬ IsOption p) same is.1)))
 named_with_path help version name path (command.AskUnchecked at) is = let e = is in cc
 named_with_path help version name path (command.Ids at None) is = let e = is in inr (inr (inr (inl cc)))
 named_with_path help version name path (command.Ids at (Some range)) is = let e = is.2 in cc
@@ -92,7 +105,7 @@ IsOfTwo name = (name ≡ codes "is-ancestor") ⊎ (name ≡ codes "walk")
 
 abbrev pub AskOfTwo : List ℕ → List (List ℕ) → Type 0
 AskOfTwo name words =
-    (at : List ℕ) × (unchecked : Bool) × (one other : List ℕ) × AreQuestionWords name unchecked at (one ∷ other ∷ []) words
+    (graph : AskedGraph) × (one other : List ℕ) × AreQuestionWords name graph (one ∷ other ∷ []) words
 
 -- the same of a question about one id and some others
 abbrev pub IsOfMany : List ℕ → Type 0
@@ -100,8 +113,8 @@ IsOfMany name = (name ≡ codes "merge-base") ⊎ (name ≡ codes "merge-base-id
 
 abbrev pub AskOfMany : List ℕ → List (List ℕ) → Type 0
 AskOfMany name words =
-    (at : List ℕ) × (unchecked : Bool) × (one other : List ℕ) × (more : List (List ℕ))
-    × AreQuestionWords name unchecked at (one ∷ other ∷ more) words
+    (graph : AskedGraph) × (one other : List ℕ) × (more : List (List ℕ))
+    × AreQuestionWords name graph (one ∷ other ∷ more) words
 
 -- the name of a command that takes a range, and that it is one
 abbrev pub IsOfRange : List ℕ → Type 0
@@ -120,18 +133,19 @@ NamedWithIds name path first others =
     ⊎ ((name ≡ codes "ask") × (path ≡ codes "--unchecked") × (others ≡ []))
 
 -- the name of a question is the first of its words
-named : (name other at one : List ℕ) (unchecked : Bool) (more rest : List (List ℕ))
-    → AreQuestionWords other unchecked at (one ∷ more) (name ∷ rest)
-    → (name ≡ other) × AreQuestionWords name unchecked at (one ∷ more) (name ∷ rest)
-named name other at one false more rest is = let e = is.0 in (cc, (cc, is.1))
-named name other at one true more rest is = (cc, cc)
+named : (name other one : List ℕ) (graph : AskedGraph) (more rest : List (List ℕ))
+    → AreQuestionWords other graph (one ∷ more) (name ∷ rest)
+    → (name ≡ other) × AreQuestionWords name graph (one ∷ more) (name ∷ rest)
+named name other one (on.Checked path) more rest is = let e = is.0 in (cc, (cc, is.1))
+named name other one (on.Unchecked path) more rest is = (cc, cc)
+named name other one (on.Newer None) more rest is = let e = is.0 in (cc, (cc, is.1))
+named name other one (on.Newer (Some path)) more rest is = let e = is.0 in (cc, (cc, is.1))
 
 -- where there are others, there is a first of them
-many : (name at one : List ℕ) (unchecked : Bool) (others : List (String Global)) (words : List (List ℕ))
-    → AreQuestionWords name unchecked at (one ∷ map string_bytes others) words → (others ≡ [] → ⊥) → AskOfMany name words
-many name at one unchecked [] words is some = absurd (some refl)
-many name at one unchecked (other ∷ others) words is some =
-    (at, unchecked, one, string_bytes other, map string_bytes others, is)
+many : (name one : List ℕ) (graph : AskedGraph) (others : List (String Global)) (words : List (List ℕ))
+    → AreQuestionWords name graph (one ∷ map string_bytes others) words → (others ≡ [] → ⊥) → AskOfMany name words
+many name one graph [] words is some = absurd (some refl)
+many name one graph (other ∷ others) words is some = (graph, one, string_bytes other, map string_bytes others, is)
 
 range_asked : (name first from to other : List ℕ) (path at : List ℕ) (others : List (String Global)) (range : PositionRange)
     → name ∷ path ∷ first ∷ map string_bytes others ≡ other ∷ at ∷ from ∷ to ∷ [] → SpellsRange from to range
@@ -146,24 +160,24 @@ named_with_ids help version name path first others (command.Help text) is = elim
 named_with_ids help version name path first others (command.Version text) is = let e = is.0 in cc
 named_with_ids help version name path first others (command.IsAncestor pair) is =
     let both =
-    named name (codes "is-ancestor") pair.path.now pair.first.now pair.unchecked (pair.second.now ∷ [])
+    named name (codes "is-ancestor") pair.first.now pair.graph (pair.second.now ∷ [])
     (path ∷ first ∷ map string_bytes others) is in
-    inl (inl both.0, (pair.path.now, pair.unchecked, pair.first.now, pair.second.now, both.1))
+    inl (inl both.0, (pair.graph, pair.first.now, pair.second.now, both.1))
 named_with_ids help version name path first others (command.Walk pair) is =
     let both =
-    named name (codes "walk") pair.path.now pair.first.now pair.unchecked (pair.second.now ∷ [])
+    named name (codes "walk") pair.first.now pair.graph (pair.second.now ∷ [])
     (path ∷ first ∷ map string_bytes others) is in
-    inl (inr both.0, (pair.path.now, pair.unchecked, pair.first.now, pair.second.now, both.1))
+    inl (inr both.0, (pair.graph, pair.first.now, pair.second.now, both.1))
 named_with_ids help version name path first others (command.MergeBase group) is =
     let both =
-    named name (codes "merge-base") group.path.now group.first.now group.unchecked (map string_bytes group.others.now)
+    named name (codes "merge-base") group.first.now group.graph (map string_bytes group.others.now)
     (path ∷ first ∷ map string_bytes others) is.0 in
-    inr (inr (inl (inl both.0, many name group.path.now group.first.now group.unchecked group.others.now _ both.1 is.1)))
+    inr (inr (inl (inl both.0, many name group.first.now group.graph group.others.now _ both.1 is.1)))
 named_with_ids help version name path first others (command.MergeBaseIds group) is =
     let both =
-    named name (codes "merge-base-ids") group.path.now group.first.now group.unchecked (map string_bytes group.others.now)
+    named name (codes "merge-base-ids") group.first.now group.graph (map string_bytes group.others.now)
     (path ∷ first ∷ map string_bytes others) is.0 in
-    inr (inr (inl (inr both.0, many name group.path.now group.first.now group.unchecked group.others.now _ both.1 is.1)))
+    inr (inr (inl (inr both.0, many name group.first.now group.graph group.others.now _ both.1 is.1)))
 named_with_ids help version name path first others (command.Check at) is = let e = is in cc
 named_with_ids help version name path first others (command.Show at) is = let e = is in cc
 named_with_ids help version name path first others (command.Ask at) is = let e = is.0 in cc
@@ -182,21 +196,45 @@ named_with_ids help version name path first others (command.Write (Some at)) is 
 named_with_ids help version name path first others (command.Merge at) is = let e = is in cc
 
 -- words that are those of two questions have the same ids
-as_many_words : (name path at : List ℕ) (unchecked taken : Bool) (ids those words : List (List ℕ))
-    → AreQuestionWords name unchecked path ids words → AreQuestionWords name taken at those words → ids ≡ those
-as_many_words name path at false false ids those words is asks = let e = is.0 in let f = asks.0 in cc
-as_many_words name path at false true ids those words is asks =
-    let e = is.0 in let same : path ≡ codes "--unchecked" = cc in absurd (is.1 same)
-as_many_words name path at true false ids those words is asks =
-    let e = asks.0 in let same : at ≡ codes "--unchecked" = cc in absurd (asks.1 same)
-as_many_words name path at true true ids those words is asks = cc
+as_many_words : (name one other : List ℕ) (graph asks : AskedGraph) (more those words : List (List ℕ))
+    → AreQuestionWords name graph (one ∷ more) words → AreQuestionWords name asks (other ∷ those) words
+    → one ∷ more ≡ other ∷ those
+as_many_words name one other (on.Checked path) (on.Checked at) more those words is are = let e = is.0 in let f = are.0 in cc
+as_many_words name one other (on.Checked path) (on.Unchecked at) more those words is are =
+    let e = is.0 in let same : path.now ≡ codes "--unchecked" = cc in absurd (is.1 (inl same))
+as_many_words name one other (on.Checked path) (on.Newer None) more those words is are =
+    let e = is.0 in let f = are.0 in let same : path.now ≡ codes "--newer" = cc in absurd (is.1 (inr same))
+as_many_words name one other (on.Checked path) (on.Newer (Some at)) more those words is are =
+    let e = is.0 in let f = are.0 in let same : path.now ≡ codes "--newer" = cc in absurd (is.1 (inr same))
+as_many_words name one other (on.Unchecked path) (on.Checked at) more those words is are =
+    let f = are.0 in let same : at.now ≡ codes "--unchecked" = cc in absurd (are.1 (inl same))
+as_many_words name one other (on.Unchecked path) (on.Unchecked at) more those words is are = cc
+as_many_words name one other (on.Unchecked path) (on.Newer None) more those words is are =
+    let f = are.0 in let same : codes "--unchecked" ≡ codes "--newer" = cc in absurd (apart same)
+as_many_words name one other (on.Unchecked path) (on.Newer (Some at)) more those words is are =
+    let f = are.0 in let same : codes "--unchecked" ≡ codes "--newer" = cc in absurd (apart same)
+as_many_words name one other (on.Newer None) (on.Checked at) more those words is are =
+    let e = is.0 in let f = are.0 in let same : at.now ≡ codes "--newer" = cc in absurd (are.1 (inr same))
+as_many_words name one other (on.Newer None) (on.Unchecked at) more those words is are =
+    let e = is.0 in let same : codes "--unchecked" ≡ codes "--newer" = cc in absurd (apart same)
+as_many_words name one other (on.Newer None) (on.Newer None) more those words is are = let e = is.0 in let f = are.0 in cc
+as_many_words name one other (on.Newer None) (on.Newer (Some at)) more those words is are =
+    let e = is.0 in let f = are.0 in let same : one ≡ at.now = cc in absurd (are.1 (subst IsId same is.1))
+as_many_words name one other (on.Newer (Some path)) (on.Checked at) more those words is are =
+    let e = is.0 in let f = are.0 in let same : at.now ≡ codes "--newer" = cc in absurd (are.1 (inr same))
+as_many_words name one other (on.Newer (Some path)) (on.Unchecked at) more those words is are =
+    let e = is.0 in let same : codes "--unchecked" ≡ codes "--newer" = cc in absurd (apart same)
+as_many_words name one other (on.Newer (Some path)) (on.Newer None) more those words is are =
+    let e = is.0 in let f = are.0 in let same : other ≡ path.now = cc in absurd (is.1 (subst IsId same are.1))
+as_many_words name one other (on.Newer (Some path)) (on.Newer (Some at)) more those words is are =
+    let e = is.0 in let f = are.0 in cc
 
 -- where one other id is asked for, there is just one
-pub two_words : (name path at first one other : List ℕ) (unchecked taken : Bool) (others : List (String Global))
-    (words : List (List ℕ)) → AreQuestionWords name unchecked path (first ∷ map string_bytes others) words
-    → AreQuestionWords name taken at (one ∷ other ∷ []) words → length others ≡ 1
-two_words name path at first one other unchecked taken others words is asks =
-    let same = as_many_words name path at unchecked taken (first ∷ map string_bytes others) (one ∷ other ∷ []) words is asks in
+pub two_words : (name first one other : List ℕ) (graph asks : AskedGraph) (others : List (String Global))
+    (words : List (List ℕ)) → AreQuestionWords name graph (first ∷ map string_bytes others) words
+    → AreQuestionWords name asks (one ∷ other ∷ []) words → length others ≡ 1
+two_words name first one other graph asks others words is are =
+    let same = as_many_words name first one graph asks (map string_bytes others) (other ∷ []) words is are in
     just_one others other cc
 
 -- one word and others
@@ -211,16 +249,16 @@ none_asked help version (command.Help text) is = elim is.0 [ inl e ↦ cc | inr 
 none_asked help version (command.Version text) is = let e = is.0 in cc
 none_asked help version (command.IsAncestor pair) is =
     let more = pair.second.now ∷ [] in
-    let e = (long (codes "is-ancestor") pair.path.now pair.first.now pair.unchecked more [] is).3 in cc
+    let e = (long (codes "is-ancestor") pair.first.now pair.graph more [] is).3 in cc
 none_asked help version (command.Walk pair) is =
     let more = pair.second.now ∷ [] in
-    let e = (long (codes "walk") pair.path.now pair.first.now pair.unchecked more [] is).3 in cc
+    let e = (long (codes "walk") pair.first.now pair.graph more [] is).3 in cc
 none_asked help version (command.MergeBase group) is =
     let more = map string_bytes group.others.now in
-    let e = (long (codes "merge-base") group.path.now group.first.now group.unchecked more [] is.0).3 in cc
+    let e = (long (codes "merge-base") group.first.now group.graph more [] is.0).3 in cc
 none_asked help version (command.MergeBaseIds group) is =
     let more = map string_bytes group.others.now in
-    let e = (long (codes "merge-base-ids") group.path.now group.first.now group.unchecked more [] is.0).3 in cc
+    let e = (long (codes "merge-base-ids") group.first.now group.graph more [] is.0).3 in cc
 none_asked help version (command.Check path) is = let e = is in cc
 none_asked help version (command.Show path) is = let e = is in cc
 none_asked help version (command.Ask path) is = let e = is.0 in cc
@@ -258,3 +296,26 @@ pub asked_by_all : (help version name : List ℕ) (words others : List (List ℕ
     → IfSome result (AskHistorytool help version words)
 asked_by_all help version name words others None are is = tt
 asked_by_all help version name words others (Some asked) are is = (name, others, are, is)
+
+-- a text that spells no id, for whatever reason, spells none
+none_spelled : (text id : List ℕ) (error : IdError) → SpellsNone text error → ¬ (SpellsId text id)
+none_spelled text id Length none spells = none spells.0
+none_spelled text id Digit none spells = none.1 (decode_of-ok text id spells.1).1
+
+-- what was read of a text tells whether it spells an id
+read_tells : (text : List ℕ) (read : Result (List ℕ) IdError) → IfOk read (SpellsId text) → IfErr read (SpellsNone text)
+    → IsTrue (is_ok read) ↔ IsId text
+read_tells text (Ok id) spells none = (λ yes. (id, spells), λ is. refl)
+read_tells text (Err error) spells none = (λ yes. cc, λ is. absurd (none_spelled text is.0 error none is.1))
+
+pub id_read : (text bytes : List ℕ) (read : Result (List ℕ) IdError) (told : Bool) → bytes ≡ text → told ≡ is_ok read
+    → IfOk read (SpellsId bytes) → IfErr read (SpellsNone bytes) → IsTrue told ↔ IsId text
+id_read text bytes read told same is spells none =
+    subst (λ (b : Bool). IsTrue b ↔ IsId text) (sym is)
+    (subst (λ (t : List ℕ). IsTrue (is_ok read) ↔ IsId t) same (read_tells bytes read spells none))
+
+-- what is so of an answer, if there is one, and what follows from it
+pub some_weaker : {A : Type 0} {P Q : A → Type 0} (answer : Option A) → ((a : A) → P a → Q a) → IfSome answer P
+    → IfSome answer Q
+some_weaker None follows is = tt
+some_weaker (Some a) follows is = follows a is

@@ -1,10 +1,11 @@
 -- The commands of `historytool`: which words ask for each, and what it may write. The table tables/commands lists the words:
 -- is-ancestor PATH HEX HEX, ids PATH [FROM TO] and so on; beside these --help or -h, and --version.
 use Rattle.std.specs.Prelude.{◌≡◌, ◌≢◌, ◌⊎◌, ℕ, List, [], ◌∷◌, Some, None, codes, map, string_bytes, Result, Option}
-use Rattle.std.specs.Prelude.{Bool, true, false, option_map}
+use Rattle.std.specs.Prelude.{option_map}
+use Rattle.gix_hash_core.specs.Hexadecimal.{SpellsId}
 use Rattle.object_commands.specs.AskedRange.{SpellsRange}
 use Rattle.historytool.specs.declared.command.Command.{Command}
-use Rattle.std.specs.Io.KnownBytes.{Appends}
+use Rattle.std.specs.Io.KnownBytes.{Appends, Keeps}
 use Rattle.graph_format.specs.Layer.{Layer}
 use Rattle.graph_layer.specs.declared.opening.error.OpenError.{OpenError}
 use Rattle.graph_commands.specs.Text.{◌⧺◌, newline}
@@ -19,19 +20,39 @@ use Rattle.write_commands.specs.MergedCommits.{MayMerge}
 use Rattle.history_commands.specs.Check.{MayFindInAll, check_text, check_status}
 use Rattle.history_commands.specs.AskedOnce.{MayAskOnce, MayReplyAt}
 use Rattle.unchecked_commands.specs.TrustedReplies.{MayReplyTrusted}
+use Rattle.newer_commands.specs.AskedNewer.{MayAskNewer, MayReplyNewer}
+use Rattle.newer_commands.specs.AskedReply.{asked_text, asked_status}
 use Rattle.answer_lines.specs.Replies.{response_text, response_status}
 use Rattle.answer_lines.specs.declared.reply.Form.{Form}
 use Rattle.answer_lines.specs.declared.reply.Form.TheVariants.{Whole, IdsAlone}
 use Rattle.question_lines.specs.declared.question.Name.{Name}
 use Rattle.question_lines.specs.declared.question.Name.TheVariants as named
 use Rattle.unchecked_questions.specs.Trusting.{MayAskTrusted, trusted_text, trusted_status}
+use Rattle.historytool.specs.declared.command.AskedGraph.{AskedGraph}
+use Rattle.historytool.specs.declared.command.AskedGraph.TheVariants as graph
 use Rattle.historytool.specs.declared.command.Command.TheVariants as command
 
--- these are the words of a command about the graph at the path, and ids if it takes some, after the program's own name: the word
--- `--unchecked` before the path says that the graph is not to be checked, and is no path itself
-abbrev pub AreQuestionWords : List ℕ → Bool → List ℕ → List (List ℕ) → List (List ℕ) → Type 0
-AreQuestionWords name false path ids words = (words ≡ name ∷ path ∷ ids) × (path ≢ codes "--unchecked")
-AreQuestionWords name true path ids words = words ≡ name ∷ codes "--unchecked" ∷ path ∷ ids
+-- a text spells an id, so it is no path of a graph on which newer commits stand
+abbrev pub IsId : List ℕ → Type 0
+IsId text = (id : List ℕ) × SpellsId text id
+
+abbrev pub StartWithId : List (List ℕ) → Type 0
+StartWithId [] = ⊥
+StartWithId (text ∷ texts) = IsId text
+
+-- a word says how the graph behind it is asked, so it is no path itself
+abbrev pub IsOption : List ℕ → Type 0
+IsOption word = (word ≡ codes "--unchecked") ⊎ (word ≡ codes "--newer")
+
+-- These are the words of a command about a graph, and ids if it takes some, after the program's own name: the path alone where
+-- the graph is checked; the word `--unchecked` before it where it is not; and the word `--newer` where newer commits stand on it,
+-- with no path behind that where they stand on none.
+abbrev pub AreQuestionWords : List ℕ → AskedGraph → List (List ℕ) → List (List ℕ) → Type 0
+AreQuestionWords name (graph.Checked path) ids words = (words ≡ name ∷ path.now ∷ ids) × (¬ IsOption path.now)
+AreQuestionWords name (graph.Unchecked path) ids words = words ≡ name ∷ codes "--unchecked" ∷ path.now ∷ ids
+AreQuestionWords name (graph.Newer None) ids words = (words ≡ name ∷ codes "--newer" ∷ ids) × StartWithId ids
+AreQuestionWords name (graph.Newer (Some path)) ids words =
+    (words ≡ name ∷ codes "--newer" ∷ path.now ∷ ids) × (¬ IsId path.now)
 
 -- the words after the program's own name ask for this command, given the texts of the help and of the version
 abbrev pub AskAfterName : List ℕ → List ℕ → List (List ℕ) → Command → Type 0
@@ -39,19 +60,19 @@ AskAfterName help version words (command.Help text) =
     ((words ≡ codes "--help" ∷ []) ⊎ (words ≡ codes "-h" ∷ [])) × (text.now ≡ help)
 AskAfterName help version words (command.Version text) = (words ≡ codes "--version" ∷ []) × (text.now ≡ version)
 AskAfterName help version words (command.IsAncestor pair) =
-    AreQuestionWords (codes "is-ancestor") pair.unchecked pair.path.now (pair.first.now ∷ pair.second.now ∷ []) words
+    AreQuestionWords (codes "is-ancestor") pair.graph (pair.first.now ∷ pair.second.now ∷ []) words
 AskAfterName help version words (command.Walk pair) =
-    AreQuestionWords (codes "walk") pair.unchecked pair.path.now (pair.first.now ∷ pair.second.now ∷ []) words
+    AreQuestionWords (codes "walk") pair.graph (pair.first.now ∷ pair.second.now ∷ []) words
 AskAfterName help version words (command.MergeBase group) =
-    AreQuestionWords (codes "merge-base") group.unchecked group.path.now (group.first.now ∷ map string_bytes group.others.now)
-    words × (group.others.now ≢ [])
+    AreQuestionWords (codes "merge-base") group.graph (group.first.now ∷ map string_bytes group.others.now) words
+    × (group.others.now ≢ [])
 AskAfterName help version words (command.MergeBaseIds group) =
-    AreQuestionWords (codes "merge-base-ids") group.unchecked group.path.now
-    (group.first.now ∷ map string_bytes group.others.now) words × (group.others.now ≢ [])
+    AreQuestionWords (codes "merge-base-ids") group.graph (group.first.now ∷ map string_bytes group.others.now) words
+    × (group.others.now ≢ [])
 AskAfterName help version words (command.Check path) = words ≡ codes "check" ∷ path.now ∷ []
 AskAfterName help version words (command.Show path) = words ≡ codes "show" ∷ path.now ∷ []
-AskAfterName help version words (command.Ask path) = AreQuestionWords (codes "ask") false path.now [] words
-AskAfterName help version words (command.AskUnchecked path) = AreQuestionWords (codes "ask") true path.now [] words
+AskAfterName help version words (command.Ask path) = AreQuestionWords (codes "ask") (graph.Checked path) [] words
+AskAfterName help version words (command.AskUnchecked path) = AreQuestionWords (codes "ask") (graph.Unchecked path) [] words
 AskAfterName help version words (command.Ids path None) = words ≡ codes "ids" ∷ path.now ∷ []
 AskAfterName help version words (command.Ids path (Some range)) =
     (from to : List ℕ) × (words ≡ codes "ids" ∷ path.now ∷ from ∷ to ∷ []) × SpellsRange from to range
@@ -71,21 +92,26 @@ AskHistorytool help version words asked =
 abbrev pub TellsOfItself : List ℕ → Option (List ℕ) → Option (List ℕ) → ℕ → Type 0
 TellsOfItself text old new status = Appends old new (text ⧺ newline) × (status ≡ 0)
 
--- an answer to the question of a name about the ids that texts spell: one that its command may give, or where the graph is not
--- checked, one that it may give then
-abbrev pub TellsOf : Bool → Form → Name → List (List ℕ) → Type 0 → (ℕ → ℕ → Result (List Layer) OpenError → Type 0) → ℕ → ℕ
-    → Option (List ℕ) → Option (List ℕ) → ℕ → Type 0
-TellsOf false form name texts IsLeftAlone MayOpen before after old new status =
-    WritesAnswer (response_text form) response_status (MayAskOnce name texts IsLeftAlone (MayReplyAt (MayOpen before after)))
-    old new status
-TellsOf true form name texts IsLeftAlone MayOpen before after old new status =
-    WritesAnswer (response_text form) response_status (MayAskOnce name texts IsLeftAlone (MayReplyTrusted MayOpen before after))
-    old new status
+-- an answer to the question of a name about the ids that texts spell: one that its command may give, where the graph is checked;
+-- one that it may give where it is not; or one about the graph, or none, and the newer commits that are asked for
+abbrev pub TellsOf : AskedGraph → Form → Name → List (List ℕ) → Option (List ℕ) → Option (List ℕ) → Type 0
+    → (List ℕ → ℕ → ℕ → Result (List Layer) OpenError → Type 0) → ℕ → ℕ → Option (List ℕ) → Option (List ℕ) → ℕ → Type 0
+TellsOf (graph.Checked path) form name texts input unread IsLeftAlone MayOpenAt before after old new status =
+    WritesAnswer (response_text form) response_status
+    (MayAskOnce name texts IsLeftAlone (MayReplyAt (MayOpenAt path.now before after))) old new status
+TellsOf (graph.Unchecked path) form name texts input unread IsLeftAlone MayOpenAt before after old new status =
+    WritesAnswer (response_text form) response_status
+    (MayAskOnce name texts IsLeftAlone (MayReplyTrusted (MayOpenAt path.now) before after)) old new status
+TellsOf (graph.Newer path) form name texts input unread IsLeftAlone MayOpenAt before after old new status =
+    WritesAnswer (asked_text form) asked_status
+    (MayAskNewer name texts (IsLeftAlone × Keeps input unread)
+    (MayReplyNewer (option_map (λ p. p.now) path) IsLeftAlone (λ at. MayOpenAt at before after) input unread)) old new status
 
 -- an answer that the command may give is written, with its status: help and version leave the folder alone; each other command
 -- answers of what the opener may answer at its path, while the count of failures goes from `before` to `after`, where it has a
--- path; `ask` of what it may answer in several calls, one after another. `objects`, `ask` and `write` answer of what the input
--- has left before and after, where that is known; none of the others asks for it
+-- path; `ask` of what it may answer in several calls, one after another. `objects`, `ask`, `write` and
+-- questions about newer commits answer of what the input has left before and after, where that is known; none of the others
+-- asks for it
 abbrev pub HistorytoolMayWrite : Command → Option (List ℕ) → Option (List ℕ) → Type 0
     → (List ℕ → ℕ → ℕ → Result (List Layer) OpenError → Type 0) → ℕ → ℕ → Option (List ℕ) → Option (List ℕ) → ℕ → Type 0
 HistorytoolMayWrite (command.Help text) input unread IsLeftAlone MayOpenAt before after old new status =
@@ -93,17 +119,17 @@ HistorytoolMayWrite (command.Help text) input unread IsLeftAlone MayOpenAt befor
 HistorytoolMayWrite (command.Version text) input unread IsLeftAlone MayOpenAt before after old new status =
     IsLeftAlone × TellsOfItself text.now old new status
 HistorytoolMayWrite (command.IsAncestor pair) input unread IsLeftAlone MayOpenAt before after old new status =
-    TellsOf pair.unchecked Whole named.IsAncestor (pair.first.now ∷ pair.second.now ∷ []) IsLeftAlone
-    (MayOpenAt pair.path.now) before after old new status
+    TellsOf pair.graph Whole named.IsAncestor (pair.first.now ∷ pair.second.now ∷ []) input unread
+    IsLeftAlone MayOpenAt before after old new status
 HistorytoolMayWrite (command.Walk pair) input unread IsLeftAlone MayOpenAt before after old new status =
-    TellsOf pair.unchecked Whole named.Walk (pair.first.now ∷ pair.second.now ∷ []) IsLeftAlone
-    (MayOpenAt pair.path.now) before after old new status
+    TellsOf pair.graph Whole named.Walk (pair.first.now ∷ pair.second.now ∷ []) input unread
+    IsLeftAlone MayOpenAt before after old new status
 HistorytoolMayWrite (command.MergeBase group) input unread IsLeftAlone MayOpenAt before after old new status =
-    TellsOf group.unchecked Whole named.MergeBase (group.first.now ∷ map string_bytes group.others.now) IsLeftAlone
-    (MayOpenAt group.path.now) before after old new status
+    TellsOf group.graph Whole named.MergeBase (group.first.now ∷ map string_bytes group.others.now) input unread
+    IsLeftAlone MayOpenAt before after old new status
 HistorytoolMayWrite (command.MergeBaseIds group) input unread IsLeftAlone MayOpenAt before after old new status =
-    TellsOf group.unchecked IdsAlone named.MergeBase (group.first.now ∷ map string_bytes group.others.now) IsLeftAlone
-    (MayOpenAt group.path.now) before after old new status
+    TellsOf group.graph IdsAlone named.MergeBase (group.first.now ∷ map string_bytes group.others.now) input unread
+    IsLeftAlone MayOpenAt before after old new status
 HistorytoolMayWrite (command.Check path) input unread IsLeftAlone MayOpenAt before after old new status =
     WritesAnswer check_text check_status (MayFindInAll (MayOpenAt path.now before after)) old new status
 HistorytoolMayWrite (command.Show path) input unread IsLeftAlone MayOpenAt before after old new status =

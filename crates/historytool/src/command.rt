@@ -1,10 +1,10 @@
 //! The commands of `historytool`, by the words of a command line.
 
-ghost use Rattle.std.specs.Prelude.{◌≡◌, ◌≢◌, ◌∷◌, [], ℕ, List, Bool, IfOk, IfSome, IsNone};
-ghost use Rattle.std.specs.Prelude.{codes, map, string_bytes};
+ghost use Rattle.std.specs.Prelude.{◌≡◌, ◌≢◌, ◌↔◌, ◌∷◌, [], ℕ, List, IfOk, IfSome, IsNone};
+ghost use Rattle.std.specs.Prelude.{IsTrue, codes, map, string_bytes};
 ghost use Rattle.historytool.specs.HistorytoolCommands.{AreQuestionWords, AskAfterName};
-ghost use Rattle.historytool.specs.HistorytoolCommands.{AskHistorytool, TellsOfItself};
-ghost use Rattle.historytool.specs.HistorytoolCommands.{TellsOf};
+ghost use Rattle.historytool.specs.HistorytoolCommands.{AskHistorytool, IsId, IsOption, TellsOf};
+ghost use Rattle.historytool.specs.HistorytoolCommands.{TellsOfItself};
 ghost use Rattle.answer_lines.specs.declared.reply.Form.TheVariants.{Whole, IdsAlone};
 ghost use Rattle.question_lines.specs.declared.question.Name.TheVariants as named;
 ghost use Rattle.graph_commands.specs.OpenerAnswer.{MayOpen};
@@ -12,14 +12,19 @@ ghost use Rattle.graph_commands.specs.WrittenAnswer.{WritesAnswer};
 ghost use Rattle.object_commands.specs.AskedRange.{SpellsRange};
 ghost use Rattle.object_commands.specs.declared.range.PositionRange as declared;
 ghost use Rattle.question_commands.specs.Asking.{MayAsk, ask_status, ask_text};
+ghost use Rattle.historytool.specs.declared.command.AskedGraph.{AskedGraph};
 ghost use Rattle.historytool.specs.declared.command.Command.{Command};
 
+use gix_hash_core::ObjectId;
 use graph_commands::line::{WriteFailed, write_line};
 use graph_commands::program::Run;
 use graph_commands::status::Status;
 use graph_folder::folder::Folder;
 use history_commands::run::{
     run_check, run_is_ancestor, run_merge_base, run_merge_base_ids, run_walk,
+};
+use newer_commands::run::{
+    run_is_ancestor_newer, run_merge_base_ids_newer, run_merge_base_newer, run_walk_newer,
 };
 use object_commands::{PositionRange, run_ids, run_objects};
 use question_commands::asking::run_ask;
@@ -113,13 +118,23 @@ pub enum Command<'a> {
     },
 }
 
+/// A graph, and how it is asked.
+#[derive(Clone, Copy, Debug)]
+pub enum AskedGraph<'a> {
+    /// The graph at this path, once it was checked.
+    Checked(&'a str),
+    /// The graph at this path, which is trusted, and not checked.
+    Unchecked(&'a str),
+    /// The graph at this path, once it was checked, with newer commits on top, which are asked for;
+    /// these alone, where there is no path.
+    Newer(Option<&'a str>),
+}
+
 /// A graph, and two commits that it is asked about.
 #[derive(Clone, Copy, Debug)]
 pub struct Pair<'a> {
-    /// Whether the graph is trusted, and not checked.
-    pub unchecked: bool,
-    /// The path of the graph.
-    pub path: &'a str,
+    /// The graph.
+    pub graph: AskedGraph<'a>,
     /// The first id, in hexadecimal digits.
     pub first: &'a str,
     /// The second id.
@@ -129,10 +144,8 @@ pub struct Pair<'a> {
 /// A graph, and two commits or more that it is asked about.
 #[derive(Clone, Copy, Debug)]
 pub struct Group<'a> {
-    /// Whether the graph is trusted, and not checked.
-    pub unchecked: bool,
-    /// The path of the graph.
-    pub path: &'a str,
+    /// The graph.
+    pub graph: AskedGraph<'a>,
     /// The first id, in hexadecimal digits.
     pub first: &'a str,
     /// The other ids, of which there is one at least.
@@ -249,10 +262,10 @@ impl<'a> Command<'a> {
     fn ask(path: &'a str) -> Option<Command<'a>>
         ensures asked { (help version : List ℕ)
             → IfSome result (AskAfterName help version (codes "ask" ∷ path.now ∷ [])) }
-        ensures other { IsNone result → path.now ≡ codes "--unchecked" }
+        ensures other { IsNone result → IsOption path.now }
     {
         match path {
-            "--unchecked" => None,
+            "--unchecked" | "--newer" => None,
             _ => Some(Command::Ask { path }),
         }
     }
@@ -278,24 +291,21 @@ impl<'a> Pair<'a> {
     /// it takes.
     fn of(path: &'a str, first: &'a str, others: &'a [String]) -> Option<Pair<'a>>
         ensures some { IfSome result (λ pair. (name : List ℕ)
-            → AreQuestionWords name pair.unchecked pair.path.now
-            (pair.first.now ∷ pair.second.now ∷ [])
+            → AreQuestionWords name pair.graph (pair.first.now ∷ pair.second.now ∷ [])
             (name ∷ path.now ∷ first.now ∷ map string_bytes others.now)) }
-        ensures none { IsNone result → (name path_asked : List ℕ) (unchecked : Bool)
-            (one other : List ℕ) → ¬ AreQuestionWords name unchecked path_asked (one ∷ other ∷ [])
+        ensures none { IsNone result → (name : List ℕ) (graph : AskedGraph)
+            (one other : List ℕ) → ¬ AreQuestionWords name graph (one ∷ other ∷ [])
             (name ∷ path.now ∷ first.now ∷ map string_bytes others.now) }
     {
         let Group {
-            unchecked,
-            path,
+            graph,
             first,
             others,
         } = Group::of(path, first, others)?;
         match others {
             [] => None,
             [second] => Some(Pair {
-                unchecked,
-                path,
+                graph,
                 first,
                 second,
             }),
@@ -306,40 +316,63 @@ impl<'a> Pair<'a> {
 
 impl<'a> Group<'a> {
     /// What the words after the name of a question about two commits or more say, if there are as
-    /// many as it takes: the path, or else the word `--unchecked`, and what follows it.
+    /// many as it takes: the path, or else a word that says how the graph is asked, and what
+    /// follows it.
     fn of(path: &'a str, first: &'a str, others: &'a [String]) -> Option<Group<'a>>
         ensures some { IfSome result (λ group. (name : List ℕ)
-            → AreQuestionWords name group.unchecked group.path.now
+            → AreQuestionWords name group.graph
             (group.first.now ∷ map string_bytes group.others.now)
             (name ∷ path.now ∷ first.now ∷ map string_bytes others.now)) }
         ensures others { IfSome result (λ group. group.others.now ≢ []) }
-        ensures none { IsNone result → (name path_asked : List ℕ) (unchecked : Bool)
+        ensures none { IsNone result → (name : List ℕ) (graph : AskedGraph)
             (one other : List ℕ) (more : List (List ℕ))
-            → ¬ AreQuestionWords name unchecked path_asked (one ∷ other ∷ more)
+            → ¬ AreQuestionWords name graph (one ∷ other ∷ more)
             (name ∷ path.now ∷ first.now ∷ map string_bytes others.now) }
     {
         match path {
-            "--unchecked" => match others {
-                [] => None,
-                [_] => None,
-                [next, rest @ ..] => Some(Group {
-                    unchecked: true,
-                    path: first,
-                    first: next,
-                    others: rest,
-                }),
-            },
-            _ => match others {
-                [] => None,
-                _ => Some(Group {
-                    unchecked: false,
-                    path,
-                    first,
-                    others,
-                }),
-            },
+            "--unchecked" => Group::on(AskedGraph::Unchecked(first), others),
+            "--newer" if is_id(first) => Group::with(AskedGraph::Newer(None), first, others),
+            "--newer" => Group::on(AskedGraph::Newer(Some(first)), others),
+            _ => Group::with(AskedGraph::Checked(path), first, others),
         }
     }
+
+    /// A question to a graph about the commits with these ids, if there are two at least.
+    fn on(graph: AskedGraph<'a>, ids: &'a [String]) -> Option<Group<'a>>
+        ensures some { IfSome result (λ group. (group.graph ≡ graph.entry) × (group.others.now ≢ [])
+            × (map string_bytes ids.now ≡ group.first.now ∷ map string_bytes group.others.now)) }
+        ensures none { IsNone result → (one other : List ℕ) (more : List (List ℕ))
+            → map string_bytes ids.now ≢ one ∷ other ∷ more }
+    {
+        match ids {
+            [] => None,
+            [first, others @ ..] => Group::with(graph, first, others),
+        }
+    }
+
+    /// A question to a graph about the commits with a first id and some others, if there are any.
+    fn with(graph: AskedGraph<'a>, first: &'a str, others: &'a [String]) -> Option<Group<'a>>
+        ensures some { IfSome result (λ group. (group.graph ≡ graph.entry) × (group.others.now ≢ [])
+            × (group.first.now ≡ first.now) × (group.others.now ≡ others.now)) }
+        ensures none { IsNone result → others.now ≡ [] }
+    {
+        if others.is_empty() {
+            None
+        } else {
+            Some(Group {
+                graph,
+                first,
+                others,
+            })
+        }
+    }
+}
+
+/// Whether a text spells an id.
+fn is_id(text: &str) -> bool
+    ensures { IsTrue result ↔ IsId text.now }
+{
+    ObjectId::from_hex(text.as_bytes()).is_ok()
 }
 
 /// The range of positions that two texts spell, of which the second is the only other one, if they
@@ -371,10 +404,10 @@ impl Run for Command<'_> {
     ) -> Result<u8, WriteFailed> {
         match self {
             Command::Help { text } | Command::Version { text } => tell(output, text),
-            Command::IsAncestor { pair } => pair.is_ancestor(alloc, folder, output),
-            Command::Walk { pair } => pair.walk(alloc, folder, output),
-            Command::MergeBase { group } => group.bases(alloc, folder, output),
-            Command::MergeBaseIds { group } => group.base_ids(alloc, folder, output),
+            Command::IsAncestor { pair } => pair.is_ancestor(alloc, input, folder, output),
+            Command::Walk { pair } => pair.walk(alloc, input, folder, output),
+            Command::MergeBase { group } => group.bases(alloc, input, folder, output),
+            Command::MergeBaseIds { group } => group.base_ids(alloc, input, folder, output),
             Command::Check { path } => run_check(alloc, folder, path, output),
             Command::Show { path } => run_show(alloc, folder, path, output),
             Command::Ask { path } => answer_questions(alloc, input, folder, path, output),
@@ -410,115 +443,123 @@ fn answer_questions<R: Read, T: Folder, W: Write>(
 
 impl Pair<'_> {
     /// Runs `is-ancestor`, and answers the exit status. `WriteFailed` comes where the output fails.
-    fn is_ancestor<T: Folder, W: Write>(
+    fn is_ancestor<R: Read, T: Folder, W: Write>(
         self,
         alloc: Global,
+        input: &mut R,
         folder: &mut T,
         output: &mut W,
     ) -> Result<u8, WriteFailed>
-        ensures written { IfOk result (TellsOf self.entry.unchecked Whole named.IsAncestor
-            (self.entry.first.now ∷ self.entry.second.now ∷ []) (folder.new ≡ folder.old)
-            (MayOpen (T.tree folder.old) self.entry.path.now)
+        ensures written { IfOk result (TellsOf self.entry.graph Whole named.IsAncestor
+            (self.entry.first.now ∷ self.entry.second.now ∷ [])
+            (R.remaining input.old) (R.remaining input.new)
+            (folder.new ≡ folder.old) (λ path. MayOpen (T.tree folder.old) path)
             (T.failure_count folder.old) (T.failure_count folder.new)
             (W.contents output.old) (W.contents output.new)) }
         ensures tree { T.tree folder.new ≡ T.tree folder.old }
     {
-        let Pair {
-            unchecked,
-            path,
-            first,
-            second,
-        } = self;
-        if unchecked {
-            run_is_ancestor_unchecked(alloc, folder, path, first, second, output)
-        } else {
-            run_is_ancestor(alloc, folder, path, first, second, output)
+        let (first, second) = (self.first, self.second);
+        match self.graph {
+            AskedGraph::Checked(path) => {
+                run_is_ancestor(alloc, folder, path, first, second, output)
+            }
+            AskedGraph::Unchecked(path) => {
+                run_is_ancestor_unchecked(alloc, folder, path, first, second, output)
+            }
+            AskedGraph::Newer(path) => {
+                run_is_ancestor_newer(alloc, folder, path, first, second, input, output)
+            }
         }
     }
 
     /// Runs `walk`, and answers the exit status. `WriteFailed` comes where the output fails.
-    fn walk<T: Folder, W: Write>(
+    fn walk<R: Read, T: Folder, W: Write>(
         self,
         alloc: Global,
+        input: &mut R,
         folder: &mut T,
         output: &mut W,
     ) -> Result<u8, WriteFailed>
-        ensures written { IfOk result (TellsOf self.entry.unchecked Whole named.Walk
-            (self.entry.first.now ∷ self.entry.second.now ∷ []) (folder.new ≡ folder.old)
-            (MayOpen (T.tree folder.old) self.entry.path.now)
+        ensures written { IfOk result (TellsOf self.entry.graph Whole named.Walk
+            (self.entry.first.now ∷ self.entry.second.now ∷ [])
+            (R.remaining input.old) (R.remaining input.new)
+            (folder.new ≡ folder.old) (λ path. MayOpen (T.tree folder.old) path)
             (T.failure_count folder.old) (T.failure_count folder.new)
             (W.contents output.old) (W.contents output.new)) }
         ensures tree { T.tree folder.new ≡ T.tree folder.old }
     {
-        let Pair {
-            unchecked,
-            path,
-            first,
-            second,
-        } = self;
-        if unchecked {
-            run_walk_unchecked(alloc, folder, path, first, second, output)
-        } else {
-            run_walk(alloc, folder, path, first, second, output)
+        let (first, second) = (self.first, self.second);
+        match self.graph {
+            AskedGraph::Checked(path) => { run_walk(alloc, folder, path, first, second, output) }
+            AskedGraph::Unchecked(path) => {
+                run_walk_unchecked(alloc, folder, path, first, second, output)
+            }
+            AskedGraph::Newer(path) => {
+                run_walk_newer(alloc, folder, path, first, second, input, output)
+            }
         }
     }
 }
 
 impl Group<'_> {
     /// Runs `merge-base`, and answers the exit status. `WriteFailed` comes where the output fails.
-    fn bases<T: Folder, W: Write>(
+    fn bases<R: Read, T: Folder, W: Write>(
         self,
         alloc: Global,
+        input: &mut R,
         folder: &mut T,
         output: &mut W,
     ) -> Result<u8, WriteFailed>
-        ensures written { IfOk result (TellsOf self.entry.unchecked Whole named.MergeBase
+        ensures written { IfOk result (TellsOf self.entry.graph Whole named.MergeBase
             (self.entry.first.now ∷ map string_bytes self.entry.others.now)
-            (folder.new ≡ folder.old)
-            (MayOpen (T.tree folder.old) self.entry.path.now)
+            (R.remaining input.old) (R.remaining input.new)
+            (folder.new ≡ folder.old) (λ path. MayOpen (T.tree folder.old) path)
             (T.failure_count folder.old) (T.failure_count folder.new)
             (W.contents output.old) (W.contents output.new)) }
         ensures tree { T.tree folder.new ≡ T.tree folder.old }
     {
-        let Group {
-            unchecked,
-            path,
-            first,
-            others,
-        } = self;
-        if unchecked {
-            run_merge_base_unchecked(alloc, folder, path, first, others, output)
-        } else {
-            run_merge_base(alloc, folder, path, first, others, output)
+        let (first, others) = (self.first, self.others);
+        match self.graph {
+            AskedGraph::Checked(path) => {
+                run_merge_base(alloc, folder, path, first, others, output)
+            }
+            AskedGraph::Unchecked(path) => {
+                run_merge_base_unchecked(alloc, folder, path, first, others, output)
+            }
+            AskedGraph::Newer(path) => {
+                run_merge_base_newer(alloc, folder, path, first, others, input, output)
+            }
         }
     }
 
     /// Runs `merge-base-ids`, and answers the exit status. `WriteFailed` comes where the output
     /// fails.
-    fn base_ids<T: Folder, W: Write>(
+    fn base_ids<R: Read, T: Folder, W: Write>(
         self,
         alloc: Global,
+        input: &mut R,
         folder: &mut T,
         output: &mut W,
     ) -> Result<u8, WriteFailed>
-        ensures written { IfOk result (TellsOf self.entry.unchecked IdsAlone named.MergeBase
+        ensures written { IfOk result (TellsOf self.entry.graph IdsAlone named.MergeBase
             (self.entry.first.now ∷ map string_bytes self.entry.others.now)
-            (folder.new ≡ folder.old)
-            (MayOpen (T.tree folder.old) self.entry.path.now)
+            (R.remaining input.old) (R.remaining input.new)
+            (folder.new ≡ folder.old) (λ path. MayOpen (T.tree folder.old) path)
             (T.failure_count folder.old) (T.failure_count folder.new)
             (W.contents output.old) (W.contents output.new)) }
         ensures tree { T.tree folder.new ≡ T.tree folder.old }
     {
-        let Group {
-            unchecked,
-            path,
-            first,
-            others,
-        } = self;
-        if unchecked {
-            run_merge_base_ids_unchecked(alloc, folder, path, first, others, output)
-        } else {
-            run_merge_base_ids(alloc, folder, path, first, others, output)
+        let (first, others) = (self.first, self.others);
+        match self.graph {
+            AskedGraph::Checked(path) => {
+                run_merge_base_ids(alloc, folder, path, first, others, output)
+            }
+            AskedGraph::Unchecked(path) => {
+                run_merge_base_ids_unchecked(alloc, folder, path, first, others, output)
+            }
+            AskedGraph::Newer(path) => {
+                run_merge_base_ids_newer(alloc, folder, path, first, others, input, output)
+            }
         }
     }
 }

@@ -4,8 +4,8 @@ import refusals
 from checks.program import LINES
 from checks.word_checks import BAD_DEVICE, fails_to_read
 
-TOO_LARGE = {"refused open 6 graph 2", "refused file 14"}
-"""Lines for files of many gigabytes, which no check here makes."""
+TOO_LARGE = {"refused open 6 graph 2", "refused file 14", "refused newer 9"}
+"""Lines for files of many gigabytes and for billions of commits, which no check here makes."""
 
 NO_MEMORY = "memory ran out"
 """The beginning of rows whose lines depend on the machine; suites/refused_memory has them all."""

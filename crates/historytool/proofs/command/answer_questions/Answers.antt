@@ -1,5 +1,5 @@
 -- Nobody changes what stands at the path; what is known of how it was read is left out.
-use Rattle.std.proofs.Common.{◌≡◌, ◌∙◌, Option, List, Result, ℕ, subst}
+use Rattle.std.proofs.Common.{◌∙◌, Option, List, Result, ℕ, subst}
 use Rattle.graph_commands.specs.OpenerAnswer.{MayOpen}
 use Rattle.graph_folder.specs.Tree.{Tree}
 use Rattle.graph_format.specs.Layer.{Layer}
