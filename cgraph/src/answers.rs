@@ -11,9 +11,10 @@ use crate::commands::{Takes, Tool};
 use crate::diagnosis::Case;
 use crate::error::Error;
 use crate::fields::fields_of;
-use crate::graph::{Graph, Kind, Places};
+use crate::graph::{Graph, Kind, Place, Places};
 use crate::json::{Object, Value};
 use crate::known::{what_to_do, Explained, Known};
+use crate::newer::{self, Answered};
 use crate::objects;
 use crate::paths::{from_root, is_there};
 use crate::program::{self, line_on, Answer, Call, Held, Plain, Silence, Sink};
@@ -216,21 +217,10 @@ pub fn ask_program<'a>(
         let before = graph.identity();
         let alone = is_alone(question, &asked, &graph);
         let place = graph.place(question.scratch, alone)?;
-        let mut words = vec![asked.word];
-        words.extend(question.options().unchecked.then_some("--unchecked"));
-        words.push(place.graph);
-        words.extend(question.ids.iter().map(String::as_str));
-        let asks = question.words.word() == "ask";
-        let call = Call {
-            program: asked.program,
-            words: &words,
-            folder: &place.folder,
-            input: None,
-            asks,
-        };
-        let answer = program::ask(question.session, &call, sink, line_on(question, &graph));
+        let (answer, newer) = ask_at(question, asked, &graph, &place, sink);
         let mut case = Case::new(question, graph, answer);
         case.place = Some(place);
+        case.newer = newer;
         case.asked = asked.of;
         if !case.answer.is_refused() || question.places.graph().identity() == before {
             return Ok(case);
@@ -243,6 +233,33 @@ pub fn ask_program<'a>(
     );
     case.asked = asked.of;
     Ok(case)
+}
+
+/// Asks a program about the commit-graph at a place, and tells how many commits were read besides,
+/// where the question is also about commits that the commit-graph lacks.
+fn ask_at(
+    question: &Question,
+    asked: Asked,
+    graph: &Graph,
+    place: &Place,
+    sink: &mut dyn Sink,
+) -> (Answer, Option<u64>) {
+    let is_newer = question.words.is_about_newer();
+    let mut words = vec![asked.word];
+    words.extend(question.options().unchecked.then_some("--unchecked"));
+    words.extend(is_newer.then_some("--newer"));
+    words.extend((!is_newer || graph.kind != Kind::None).then_some(place.graph));
+    words.extend(question.ids.iter().map(String::as_str));
+    let asks = question.words.word() == "ask";
+    let (program, folder) = (asked.program, place.folder.as_path());
+    let call = Call { program, words: &words, folder, input: None, asks };
+    let (session, line) = (question.session, line_on(question, graph));
+    if is_newer {
+        let Answered { answer, read } = newer::ask(session, &call, sink, line, question.progress);
+        (answer, Some(read))
+    } else {
+        (program::ask(session, &call, sink, line), None)
+    }
 }
 
 /// Whether a file is named by itself, and not by the folder in which a chain may be beside it.
@@ -313,6 +330,7 @@ fn finish(mut case: Case, sink: &mut dyn Sink) -> i32 {
     }
     look_for_repeated(&mut case);
     look_for_other_parents(&mut case);
+    look_for_many(&mut case);
     end(case)
 }
 
@@ -373,6 +391,23 @@ fn look_for_other_parents(case: &mut Case) {
             case.warn(&sentence);
         }
     }
+}
+
+/// Says that a commit-graph makes answers fast, where many commits were read that it lacks.
+fn look_for_many(case: &mut Case) {
+    let read = case.newer.unwrap_or(0);
+    if read < newer::MANY || case.question.options().quiet {
+        return;
+    }
+    let lacks = match case.graph.kind {
+        Kind::None => "there is no commit-graph",
+        _ => "the commit-graph lacks them",
+    };
+    let mut sentence = format!("{read} commits were read one by one, as {lacks}");
+    if let Some(write) = case.cures().write_of_own() {
+        sentence += &format!("; this makes it fast: {write}");
+    }
+    case.warn(&sentence);
 }
 
 /// Says what became of the answer, and gives the status to end with.
@@ -443,6 +478,9 @@ fn write_object(case: &Case, answered: &str, status: i32) -> Passed {
     }
     if !case.question.ids.is_empty() {
         object.set("ids", case.question.ids.clone());
+    }
+    if let Some(read) = case.newer {
+        object.set("newer", read);
     }
     let is_answer =
         case.answer.status == 0 || (case.answer.status == 1 && matches!(answered, "no" | "none"));

@@ -178,6 +178,13 @@ impl<'a> Cures<'a> {
         )
     }
 
+    /// The command by which Git writes this repository's own commit-graph with all commits, if
+    /// nothing keeps it from that.
+    pub fn write_of_own(&self) -> Option<String> {
+        let is_free = !self.is_foreign() && !self.is_hindered(&mut Known::default());
+        is_free.then(|| self.writes(self.form(), ""))
+    }
+
     /// The commands that give this repository a commit-graph of its own, with some words after
     /// `git`: `git cgraph write` goes by the commits alone, and then Git adds filters, and commits
     /// to which only a HEAD leads.

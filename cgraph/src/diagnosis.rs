@@ -29,6 +29,8 @@ pub struct Case<'a> {
     pub answer: Answer,
     /// The number of the layer that was listed last.
     pub listed: Option<usize>,
+    /// How many commits that the commit-graph lacks were read for the answer, where any may be.
+    pub newer: Option<u64>,
     /// Whether something is said beside the answer.
     pub beside: Option<Error>,
     pub known: Known,
@@ -49,6 +51,7 @@ impl<'a> Case<'a> {
             asked: question.words.word(),
             answer,
             listed: None,
+            newer: None,
             beside: None,
             known: Known::default(),
             warnings: Vec::new(),
@@ -99,6 +102,7 @@ impl<'a> Case<'a> {
             }
             line if line.starts_with("refused read ") => self.known.is_absent = true,
             line if line.starts_with("refused objects ") => self.diagnose_object(),
+            line if line.starts_with("refused newer ") => self.diagnose_newer(),
             line if line.starts_with("refused ") => {
                 self.name_file();
                 self.advise_anew();
@@ -278,9 +282,14 @@ impl<'a> Case<'a> {
         let Some((at, id)) = at.and_then(|at| Some((at, self.question.ids.get(at)?))) else {
             return;
         };
+        if self.newer.is_some() {
+            self.known.commit.clone_from(id);
+            self.known.cause = self.unknown_cause(at, id, "in the repository");
+            return self.diagnose_lost();
+        }
         let mut known = std::mem::take(&mut self.known);
         known.commit.clone_from(id);
-        known.cause = self.unknown_cause(at, id);
+        known.cause = self.unknown_cause(at, id, "in the commit-graph");
         let (question, cures) = (self.question, self.cures());
         if !question.is_led_to(id, &["--all", "--reflog"]) {
             known.advice = "no reference, no HEAD and no reflog leads to the commit, so that Git \
@@ -304,11 +313,11 @@ impl<'a> Case<'a> {
     }
 
     /// The sentence on a commit that is lacking, with the word by which the user named it.
-    fn unknown_cause(&self, at: usize, id: &str) -> String {
+    fn unknown_cause(&self, at: usize, id: &str, place: &str) -> String {
         let name = self.question.words.revisions.get(at).map(|name| word_of(name));
         let mut cause = match name {
-            Some(name) if name != id => format!("'{name}' ({id}) is not in the commit-graph"),
-            _ => format!("the commit {id} is not in the commit-graph"),
+            Some(name) if name != id => format!("'{name}' ({id}) is not {place}"),
+            _ => format!("the commit {id} is not {place}"),
         };
         if at > 0 {
             cause += "; the commits named before it are";

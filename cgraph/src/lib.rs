@@ -26,6 +26,7 @@ mod list;
 mod locks;
 mod lost;
 mod manual;
+mod newer;
 mod objects;
 pub mod pages;
 mod paths;

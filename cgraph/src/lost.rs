@@ -34,6 +34,18 @@ impl Case<'_> {
         }
     }
 
+    /// Finds out what is known of a commit that is newer than the commit-graph, and was refused.
+    pub fn diagnose_newer(&mut self) {
+        let line = self.answer.line.clone();
+        self.known.commit = number_after(&line, " id ").unwrap_or_default().to_owned();
+        match line.strip_prefix("refused newer ").and_then(|rest| rest.split(' ').next()) {
+            Some("1" | "4") => self.diagnose_lost(),
+            Some("2" | "3") => self.known.is_absent = true,
+            Some("6") => self.diagnose_damaged(),
+            _ => {}
+        }
+    }
+
     /// The id at a position of the commit-graph.
     fn id_at(&self, position: u64) -> Option<String> {
         let session = self.question.session;
@@ -63,6 +75,12 @@ impl Case<'_> {
             self.diagnose_damaged();
         } else if self.is_past_the_end() {
             self.known.is_absent = true;
+        } else if self.newer.is_some() {
+            self.known.advice =
+                "the commit is missing, and has to come back: take it from another copy of the \
+                 repository, and ask again"
+                    .to_owned();
+            self.known.cure = vec![format!("{} fsck", question.git_here())];
         } else if matches!(question.words.word(), "write" | "show") || self.is_lost() {
             self.known.advice =
                 "the commit is missing, and has to come back: take it from another \
@@ -207,7 +225,7 @@ impl Case<'_> {
     }
 
     /// The same of an object that Git did not write.
-    fn diagnose_lost(&mut self) {
+    pub fn diagnose_lost(&mut self) {
         self.known.is_absent = false;
         self.diagnose_missing();
     }

@@ -1,7 +1,7 @@
 //! Runs a proved program, and passes on what it answers.
 
 use std::fs::File;
-use std::io::{BufRead, BufReader, Read};
+use std::io::{self, BufRead, BufReader, Read};
 use std::path::Path;
 use std::process::{Child, ChildStderr, Command, Stdio};
 use std::sync::Arc;
@@ -103,7 +103,8 @@ pub struct Call<'a> {
 }
 
 impl Call<'_> {
-    fn command(&self) -> Command {
+    /// The process, whose streams are read.
+    pub fn command(&self) -> Command {
         let mut command = Command::new(self.program);
         command.args(self.words).current_dir(self.folder);
         command.stdout(Stdio::piped()).stderr(Stdio::piped());
@@ -129,23 +130,36 @@ pub fn ask(session: &Session, call: &Call, sink: &mut dyn Sink, line: Line) -> A
             line.of_process(child.id());
             listen(session, child, sink)
         }
-        Err(error) => {
-            let said = format!("{NAME}: {}: {error}\n", crate::text::shown(call.program));
-            Answer { status: 126, line: String::new(), said, passed: Passed::Whole }
-        }
+        Err(error) => not_started(call.program, &error),
     };
     line.end();
     judged(answer)
 }
 
+/// What is answered where a program cannot be started.
+pub fn not_started(program: &Path, error: &io::Error) -> Answer {
+    let said = format!("{NAME}: {}: {error}\n", crate::text::shown(program));
+    Answer { said, ..Answer::of(126, "") }
+}
+
 /// Reads what a program writes and says.
 fn listen(session: &Session, mut child: Child, sink: &mut dyn Sink) -> Answer {
+    match child.stdout.take() {
+        Some(out) => listen_to(session, child, BufReader::with_capacity(1 << 16, out), sink),
+        None => Answer { passed: Passed::Failed, ..Answer::of(session.wait(&mut child), "") },
+    }
+}
+
+/// Reads what a program says, and what it still writes.
+pub fn listen_to(
+    session: &Session,
+    mut child: Child,
+    out: impl BufRead,
+    sink: &mut dyn Sink,
+) -> Answer {
     let said = child.stderr.take().map(read_aside);
     let mut line = String::new();
-    let passed = match child.stdout.take() {
-        Some(out) => pass_on(out, &mut line, sink),
-        None => Passed::Failed,
-    };
+    let passed = pass_on(out, &mut line, sink);
     let status = session.wait(&mut child);
     let said = said.and_then(|thread| thread.join().ok()).unwrap_or_default();
     Answer { status, line, said: text_of(&said), passed }
@@ -161,8 +175,7 @@ pub fn read_aside(mut stream: ChildStderr) -> JoinHandle<Vec<u8>> {
 }
 
 /// Passes on what comes. The first line is told before that; one without an end is none.
-fn pass_on(out: impl Read, line: &mut String, sink: &mut dyn Sink) -> Passed {
-    let mut out = BufReader::with_capacity(1 << 16, out);
+fn pass_on(mut out: impl BufRead, line: &mut String, sink: &mut dyn Sink) -> Passed {
     let mut first = Vec::new();
     let _ = out.read_until(b'\n', &mut first);
     let Some(told) = first.strip_suffix(b"\n") else { return sink.take(&first) };
@@ -191,7 +204,7 @@ fn copy(mut out: impl BufRead, sink: &mut dyn Sink) -> Passed {
 }
 
 /// What the end of a program means for its answer.
-fn judged(answer: Answer) -> Answer {
+pub fn judged(answer: Answer) -> Answer {
     let unwritten = Error::Unwritten.to_string();
     if answer.passed != Passed::Whole || answer.said.contains(&unwritten) {
         let passed = answer.passed;

@@ -63,6 +63,12 @@ impl Progress {
         self.begin(guard, what, |delay| (delay as i64 - 1, Duration::from_secs(delay)))
     }
 
+    /// Says how many commits were read that the commit-graph lacks.
+    pub fn gathering(self, guard: &Arc<Guard>) -> Line {
+        let what = What::Gathering { read: 0 };
+        self.begin(guard, what, |delay| (delay as i64 - 1, Duration::from_secs(delay)))
+    }
+
     /// Says each second for how long something goes on of which no more is known.
     pub fn waiting(self, guard: &Arc<Guard>, text: &'static str) -> Line {
         Progress { at_once: false, ..self }.begin(guard, What::Waiting(text), |_| (0, SECOND))
@@ -131,6 +137,7 @@ enum Event {
 enum What {
     Reading { size: u64, process: Option<u32> },
     Counting { commits: u64, counted: u64 },
+    Gathering { read: u64 },
     Waiting(&'static str),
 }
 
@@ -173,6 +180,7 @@ impl State {
         match (event, &mut self.what) {
             (Event::Process(number), What::Reading { process, .. }) => *process = Some(number),
             (Event::Counted(count), What::Counting { counted, .. }) => *counted += count,
+            (Event::Counted(count), What::Gathering { read }) => *read += count,
             _ => {}
         }
     }
@@ -191,6 +199,7 @@ impl State {
             What::Counting { commits, counted } => {
                 format!("Checking commits: {} ({counted}/{commits})", percent(*counted, *commits))
             }
+            What::Gathering { read } => format!("Reading newer commits: {read}"),
             What::Waiting(text) => format!("{text}: {} s", self.seconds),
             What::Reading { size, process } => match process.map(bytes_read) {
                 None => format!("Reading commit-graph: {}", percent(0, 1)),

@@ -31,6 +31,13 @@ impl Words {
         self.command.word
     }
 
+    /// Whether the question is also about commits that the commit-graph lacks, which Git hands over.
+    pub fn is_about_newer(&self) -> bool {
+        matches!(self.word(), "is-ancestor" | "walk" | "merge-base")
+            && !self.options.graph_only
+            && !self.options.unchecked
+    }
+
     /// Whether the answer is to be an object of JSON. With `--quiet` there is none.
     pub fn in_json(&self) -> bool {
         self.options.json && !self.options.quiet
@@ -54,6 +61,7 @@ pub struct Options {
     pub keep_filters: bool,
     pub verbose: bool,
     pub unchecked: bool,
+    pub graph_only: bool,
 }
 
 /// What is wrong with words, and the command that was begun, whose usage helps.
@@ -160,6 +168,7 @@ impl Reader<'_> {
             ("is-ancestor" | "walk" | "merge-base" | "ask", "--unchecked") => {
                 options.unchecked = true;
             }
+            ("is-ancestor" | "walk" | "merge-base", "--graph-only") => options.graph_only = true,
             (word, text) => {
                 let number = text.strip_prefix("--jobs=").or_else(|| text.strip_prefix("-j"));
                 match number.filter(|_| word == "verify") {

@@ -67,9 +67,10 @@ class Clone:
             file.write(text)
         os.chmod(path, 0o755)
 
-    def put_program(self, name, text):
-        """Makes a built program, newer than the sources, of a shell script."""
-        self.put("crates/%s/out/%s" % (name, name), "#!/bin/sh\n" + text)
+    def put_program(self, name, text, asks=False):
+        """Makes a built program, newer than the sources, of a shell script. Unless it asks for newer commits itself, it asks for none."""
+        asks_for_none = "" if asks else 'for word in "$@"; do [ "$word" != --newer ] || echo; done\n'
+        self.put("crates/%s/out/%s" % (name, name), "#!/bin/sh\n" + asks_for_none + text)
 
     def put_library(self):
         """Makes the built library, newer than the sources, of a line of text."""

@@ -28,6 +28,8 @@ ASKED = {
     "git cgraph merge-base --verb": {"--verbose"},
     "git cgraph is-ancestor --unch": {"--unchecked"},
     "git cgraph walk --unch": {"--unchecked"},
+    "git cgraph walk --gr": {"--graph-only"},
+    "git cgraph find --gr": set(),
     "git cgraph merge-base --unch": {"--unchecked"},
     "git cgraph ask --unch": {"--unchecked"},
     "git cgraph find --unch": set(),

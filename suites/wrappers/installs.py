@@ -339,6 +339,8 @@ def check_completion(results, clone, repository):
         ("merge-base", "--a"): {"--all"},
         ("is-ancestor", "--u"): {"--unchecked"},
         ("walk", "--u"): {"--unchecked"},
+        ("walk", "--g"): {"--graph-only"},
+        ("ask", "--g"): set(),
         ("merge-base", "--u"): {"--unchecked"},
         ("ask", "--u"): {"--unchecked"},
         ("find", "--u"): set(),

@@ -12,7 +12,7 @@ import tempfile
 
 import refusals
 from wrappers.clone import TOP, Clone, exactly, run
-from wrappers.questions import ODD_NAME, SHELLS, WORDS, ask, git, make_repository
+from wrappers.questions import ABOUT_NEWER, ODD_NAME, SHELLS, WORDS, ask, git, make_repository
 from wrappers.sentences import examples
 from wrappers.tools import read
 
@@ -277,7 +277,8 @@ def head_of(clone, repository, word, revisions=()):
     """What an object begins with, beside the status."""
     ids = [git(clone, repository, "rev-parse", revision) for revision in revisions]
     folder, path = (os.path.join(repository, name).decode("utf-8", "replace") for name in (b".git", b".git/objects/info/commit-graph"))
-    return {"command": word, "repository": folder, "commit_graph": path, **({"ids": ids} if ids else {})}
+    newer = {"newer": 0} if word in ABOUT_NEWER else {}
+    return {"command": word, "repository": folder, "commit_graph": path, **({"ids": ids} if ids else {}), **newer}
 
 
 def check_answers(results, clone, repository):

@@ -251,7 +251,7 @@ def of_commits(spot):
 
 def has_asked(spot):
     """A complaint where the commit is not in the commit-graph."""
-    return spot.verdict() or (None if spot.ask("is-ancestor", "main", spot.more["asked"]).out == "yes\n" else "it is not there")
+    return spot.verdict() or (None if spot.ask("is-ancestor", "--graph-only", "main", spot.more["asked"]).out == "yes\n" else "it is not there")
 
 
 def missing(way):
@@ -276,6 +276,20 @@ def ruined(spot):
     """A commit whose object is damaged."""
     spot.write()
     put(spot.loose(spot.git("rev-parse", "main~2")), b"no object")
+
+
+def ungraphed(make):
+    """The same without a commit-graph."""
+    def made(spot):
+        make(spot)
+        os.remove(spot.path(GRAPH))
+    return made
+
+
+def lost(spot):
+    """A commit that is missing, to which another one leads."""
+    spot.write()
+    os.remove(spot.loose(spot.git("rev-parse", "main~2")))
 
 
 def partial_clone(spot):
@@ -385,7 +399,7 @@ DAMAGED = (
 OTHERS = (
     Row("a damaged file elsewhere, by a link", "advise_own writes_own", linked("root", "--changed-paths"), ["verify"],
         ("rm -f {file}", *OWN, GIT_WRITES + " --changed-paths"), NOT_OWN + "mend it", spots=ALL),
-    Row("a file elsewhere, by a link, and a commit that it lacks", "advise_own", linked_before, ["is-ancestor", "{asked}", "main"],
+    Row("a file elsewhere, by a link, and a commit that it lacks", "advise_own", linked_before, ["is-ancestor", "--graph-only", "{asked}", "main"],
         ("rm -f {file}", GIT_WRITES), NOT_OWN + "write it again"),
     *(Row("a file elsewhere, by a link, to be written%s" % (" as a layer" * len(more)), "look_for_strays writes_by_cgraph", linked_before,
           ["write", *more], ("rm -f {file}", " ".join([*OWN, *more])), "which is not in this repository", spots=ALL)
@@ -446,19 +460,23 @@ UNUSED = (
 )
 """Where Git uses no commit-graph."""
 
+TOP_TWO = ["is-ancestor", "main~1", "main"]
+OWNED = [spot for spot in ALL if spot != "fork"]
+"""The repositories that have the objects themselves."""
+
 LACKING = (
     Row("no commit-graph", "diagnose_absent", nothing, ["verify"], (GIT_WRITES,), spots=ALL),
     *(Row(" ".join(["a lost chain file over filters,", *words]), "diagnose_absent", lost_chain, words, (GIT_WRITES + " --changed-paths",),
           "there is no commit-graph") for words in (["verify"], ["show", "--if-exists"])),
-    Row("a commit of a branch", "diagnose_unknown", later("refs/heads/later"), ["is-ancestor", "main", "{asked}"], (GIT_WRITES,),
+    Row("a commit of a branch", "diagnose_unknown", later("refs/heads/later"), ["is-ancestor", "--graph-only", "main", "{asked}"], (GIT_WRITES,),
         "newer than the commit-graph", has_asked, ALL),
-    Row("a commit of a stash", "diagnose_unknown", later("refs/stash"), ["is-ancestor", "main", "{asked}"], (GIT_WRITES,),
+    Row("a commit of a stash", "diagnose_unknown", later("refs/stash"), ["is-ancestor", "--graph-only", "main", "{asked}"], (GIT_WRITES,),
         "newer than the commit-graph", has_asked),
-    Row("a commit of HEAD", "diagnose_unknown", later("HEAD"), ["is-ancestor", "main", "{asked}"], (WITH_HEADS % "",),
+    Row("a commit of HEAD", "diagnose_unknown", later("HEAD"), ["is-ancestor", "--graph-only", "main", "{asked}"], (WITH_HEADS % "",),
         "newer than the commit-graph", has_asked, ALL),
-    Row("a commit of a reflog", "diagnose_unknown", later("reflog"), ["is-ancestor", "main", "{asked}"], (WITH_HEADS % " --reflog",),
+    Row("a commit of a reflog", "diagnose_unknown", later("reflog"), ["is-ancestor", "--graph-only", "main", "{asked}"], (WITH_HEADS % " --reflog",),
         "only a reflog leads to the commit", has_asked),
-    Row("a commit of nothing", "diagnose_unknown", later(None), ["is-ancestor", "main", "{asked}"], (),
+    Row("a commit of nothing", "diagnose_unknown", later(None), ["is-ancestor", "--graph-only", "main", "{asked}"], (),
         "no reference, no HEAD and no reflog leads to the commit", nothing),
     Row("commits to be shown", "advise_covering", later("refs/heads/later"), ["show"], (GIT_WRITES,), "write it again", has_asked, ALL),
     Row("a commit that is lost", "diagnose_missing", missing("refs/heads/later"), ["verify", "--objects"], ("{here} fsck",),
@@ -469,6 +487,14 @@ LACKING = (
     Row("a damaged commit", "diagnose_damaged", ruined, ["verify", "--objects"], ("{here} fsck",), "which objects are damaged", nothing),
     Row("a commit of a partial clone", "is_past_the_end", partial_clone, ["verify", "--objects"], ("{here} cat-file -e {commit}",),
         "let Git fetch it"),
+    Row("a newer commit that is lost", "diagnose_newer diagnose_missing", ungraphed(lost), TOP_TWO, ("{here} fsck",),
+        "take it from another copy of the repository, and ask again", nothing, OWNED),
+    Row("a newer commit that is damaged", "diagnose_newer diagnose_damaged", ungraphed(ruined), TOP_TWO, ("{here} fsck",),
+        "which objects are damaged", nothing),
+    Row("a newer commit of a partial clone", "diagnose_newer is_past_the_end", ungraphed(partial_clone), TOP_TWO,
+        ("{here} cat-file -e {commit}",), "let Git fetch it", nothing),
+    Row("commits past the end of a shallow clone", "diagnose_newer is_past_the_end", shallow(), TOP_TWO,
+        ("{here} fetch --unshallow",), "the commit lies past its end", nothing),
     Row("a name of a lost commit", "of_revisions", missing("refs/heads/later"), ["find", "later"], ("{here} fsck",),
         "which objects are missing", graph_stays, ("plain", "odd", "bare")),
 )

@@ -110,10 +110,37 @@ def compare(path, first, last):
     return 1
 
 
+def gather(ids, known):
+    """Asks for the commits that are not known, and all that they lead to. The line of what is wrong with one, or None."""
+    wanted, asked = list(ids), set(known)
+    while wanted:
+        commit = wanted.pop()
+        if commit in asked:
+            continue
+        asked.add(commit)
+        print(commit, flush=True)
+        _, content = next(entries())
+        if content is None:
+            return "unknown %d" % (ids.index(commit) + 1) if commit in ids else "refused newer 4 id " + commit
+        head = content.decode("utf-8", "replace").split("\n\n")[0]
+        wanted += [line[len("parent ") :] for line in head.split("\n") if line.startswith("parent ")]
+    return None
+
+
+def answer_newer(*rest):
+    """Answers a question about commits of a graph, or of none, and of newer ones."""
+    line, known = refusal(rest[0]) if os.path.exists(rest[0]) else (None, [])
+    line = line or gather([word for word in rest if not os.path.exists(word)], known)
+    print("\n" + (line or "yes"))
+    return 1 if line else 0
+
+
 def answer(word, *rest):
     """Answers one command, and gives its status."""
     if word == "write":
         return write(rest)
+    if rest[:1] == ("--newer",):
+        return answer_newer(*rest[1:])
     path, *rest = [part for part in rest if part != "--unchecked"] or ["."]
     if word == "show":
         return show(path)

@@ -32,6 +32,9 @@ WORDS = {
 ASKED = {"merge-base": "merge-base-ids"}
 """By which word a program is asked, where that is another."""
 
+ABOUT_NEWER = ("is-ancestor", "walk", "merge-base")
+"""The questions that are also about commits which the commit-graph lacks."""
+
 WRONG = {
     "there is no command": [],
     "there is no command 'bogus'": ["bogus"],
@@ -48,6 +51,8 @@ WRONG = {
     "'find' has no option '--objects'": ["find", "--objects", "HEAD"],
     "'find' has no option '--unchecked'": ["find", "--unchecked", "HEAD"],
     "there is no option '--unchecked'": ["--unchecked", "is-ancestor", "HEAD", "HEAD"],
+    "'find' has no option '--graph-only'": ["find", "--graph-only", "HEAD"],
+    "'ask' has no option '--graph-only'": ["ask", "--graph-only"],
     "after -j there has to be a number": ["verify", "-j"],
     "'0' is no number of jobs from 1 to 99": ["verify", "--objects", "--jobs=0"],
     "'x' is no number of jobs from 1 to 99": ["verify", "--objects", "-jx"],
@@ -202,7 +207,8 @@ def check_questions(results, clone, repository, shell):
         clone.put_program(program, ECHO + "exit 0\n")
     for word, (_, revisions) in WORDS.items():
         ids = [git(clone, repository, "rev-parse", revision) for revision in revisions]
-        written = "".join("<%s>" % part for part in [ASKED.get(word, word), "info/commit-graph", *ids])
+        newer = ["--newer"] if word in ABOUT_NEWER else []
+        written = "".join("<%s>" % part for part in [ASKED.get(word, word), *newer, "info/commit-graph", *ids])
         expected = (0, written, objects + "\n")
         ways = {
             "at the top": ask(clone, [word, *revisions], repository, shell),
@@ -232,7 +238,7 @@ def check_statuses(results, clone, repository):
     for word, line, status, expected in STATUSES:
         program, revisions = WORDS[word]
         clone.put_program(program, "echo '%s'\nexit %d\n" % (line, status))
-        answer = ask(clone, [word, *revisions], repository)
+        answer = ask(clone, [word, *(["--graph-only"] if line == "unknown 1" else []), *revisions], repository)
         cure = anew(folder, "commit-graph")
         where = "the file is '%s/commit-graph'" % folder if "layer" in line else ""
         known = refusals.Known(where, "", cure)
@@ -250,7 +256,7 @@ def check_statuses(results, clone, repository):
         results.check("git cgraph " + " ".join(words), exactly(ask(clone, words, repository), 0, out))
     clone.put_program("historytool", "echo \"$1 $2 $3\"\n")
     for command in commands():
-        if command.reads == "trusted" and command.by_git:
+        if command.may_be_unchecked() and command.by_git:
             revisions, path = WORDS[command.word][1] if command.word in WORDS else [], "info/commit-graph"
             words = [command.word, *revisions[:1], "--unchecked", *revisions[1:]]
             out = "%s --unchecked %s\n" % (ASKED.get(command.word, command.word), path if revisions else "info")
@@ -274,7 +280,7 @@ def check_lacked(results, clone, repository):
         line = "unknown %d" % number
         clone.put_program("historytool", "echo '%s'\nexit 1\n" % line)
         err = said(refusals.sentences(rows, line, "walk", refusals.Known("", NEWER, cure, cause=cause)))
-        answer = ask(clone, ["walk", *words], repository)
+        answer = ask(clone, ["walk", "--graph-only", *words], repository)
         results.check("git cgraph walk %s, %s" % (" ".join(words), line), exactly(answer, 128, "" if "-q" in words else line + "\n", err))
 
 

@@ -99,7 +99,7 @@ def check_sentences(results, own, path):
     for words, line, said in (
         (("list",), "refused file 2", "git cgraph: the file is '%s'\n" % path),
         (("verify",), "refused verify 2 layer 0", "git cgraph: what to do: '%s' is not this repository's own: " % path),
-        (("is-ancestor", "HEAD", "HEAD"), "unknown 2", "which these commands write:\n    git commit-graph write --reachable\n"),
+        (("is-ancestor", "--graph-only", "HEAD", "HEAD"), "unknown 2", "which these commands write:\n    git commit-graph write --reachable\n"),
     ):
         answer = own.ask(*words, ANSWER=line)
         right = answer.out == line + "\n" and said in answer.err

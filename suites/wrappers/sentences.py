@@ -76,6 +76,14 @@ def check_unknown(results, clone, rows):
             answer = clone.run(["historytool", "merge-base", *more, ".", "aa", "bb", "cc"])
             said = refusals.sentences(rows, line, "merge-base", refusals.Known(cause=cause))
             results.check(" ".join(["an unknown id is named,", line, *more]), right(answer, line, "merge-base", said))
+    ids, line = ["ab" * 20, "cd" * 20], "unknown 2"
+    cause = ids[1] + " is not in the repository; the ids given before it are"
+    said = refusals.sentences(rows, line, "merge-base", refusals.Known(cause=cause, advice="see what 'git fsck' says"))
+    clone.put_program("historytool", "echo '%s'\nexit 1\n" % line)
+    for path in ([], ["."]):
+        answer = clone.run(["historytool", "merge-base", "--newer", *path, *ids])
+        title = " ".join(["an id that Git does not know is named", *path])
+        results.check(title, right(answer, "\n" + line, "merge-base", said))
 
 
 def check_no_id(results, clone, rows):

@@ -52,7 +52,7 @@ class Spot:
             os.remove(link)
             os.symlink(shutil.which("mv"), link)
         for name in ("graphtool", "historytool"):
-            self.clone.put_program(name, "exec '%s' '%s' %s \"$@\"\n" % (sys.executable, PROGRAMS, name))
+            self.clone.put_program(name, "exec '%s' '%s' %s \"$@\"\n" % (sys.executable, PROGRAMS, name), asks=True)
 
     def make(self, name, *words):
         """Makes a repository, and gives its folder."""

@@ -25,6 +25,10 @@ class Command(NamedTuple):
         """Whether it takes any number of further ids."""
         return self.ids.endswith("+")
 
+    def may_be_unchecked(self) -> bool:
+        """Whether `--unchecked` may stand before its path."""
+        return self.reads in ("trusted", "newer")
+
     def takes_range(self) -> bool:
         """Whether it takes two positions, or none."""
         return self.ids == "range"
@@ -32,7 +36,7 @@ class Command(NamedTuple):
     def operands(self, number=None) -> List[str]:
         """A path, if the command reads one or may read one before ids, and so many ids, or as few as it takes."""
         ids = self.least() if number is None else number
-        has_path = self.reads in ("path", "trusted") or self.reads == "optional" and ids > 0
+        has_path = self.reads == "path" or self.may_be_unchecked() or self.reads == "optional" and ids > 0
         return ["."] * has_path + [str(number) for number in range(ids)]
 
 
@@ -48,7 +52,8 @@ def usage(program):
     """The usage text of a program."""
     parts = []
     for command in commands(program):
-        path = {"path": ["PATH"], "optional": ["[PATH]"], "trusted": ["[--unchecked]", "PATH"]}.get(command.reads, [])
+        words = {"path": "PATH", "optional": "[PATH]", "trusted": "[--unchecked] PATH", "newer": "[--unchecked|--newer] PATH"}
+        path = words.get(command.reads, "").split()
         more = ".." if command.takes_more() else " [FROM TO]" if command.takes_range() else ""
         parts.append(" ".join([command.word, *path, *["HEX"] * command.least()]) + more)
     return "usage: %s %s" % (program, " | ".join(parts))

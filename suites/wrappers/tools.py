@@ -26,7 +26,8 @@ def wrapper_of(name):
     wrong += [[command.word, *command.operands()] for command in commands() if command.program != name]
     wrong += [[command.word, *command.operands()[:-1]] for command in own if command.operands()]
     wrong += [[command.word, *command.operands(command.least() + 1)] for command in own if not command.takes_more()]
-    wrong += [[command.word, "--unchecked", *command.operands()[:-1]] for command in own if command.reads == "trusted"]
+    wrong += [[command.word, "--unchecked", *command.operands()[:-1]] for command in own if command.may_be_unchecked()]
+    wrong += [[command.word, "--newer", *command.operands()[:-1]] for command in own if command.reads == "newer"]
     return Wrapper(name, wrong, {command.word: command.operands(command.least() + command.takes_more()) for command in own})
 
 
@@ -113,11 +114,16 @@ def check_passing(results, wrapper, clone):
             title = "%s %s, the program's status %d" % (wrapper.name, command, status)
             results.check(title, exactly(clone.run([wrapper.name, *words]), status, written))
     for command in commands(wrapper.name):
-        if command.reads == "trusted":
+        if command.may_be_unchecked():
             words = [command.word, "--unchecked", *command.operands()]
             clone.put_program(wrapper.name, 'echo line "$@"\n')
             answer = exactly(clone.run([wrapper.name, *words]), 0, "line %s\n" % " ".join(words))
             results.check("%s %s --unchecked" % (wrapper.name, command.word), answer)
+        if command.reads == "newer":
+            for path in ([], ["."]):
+                words = [command.word, "--newer", *path, *["ab" * 20] * command.least()]
+                answer = exactly(clone.run([wrapper.name, *words]), 0, "\nline %s\n" % " ".join(words))
+                results.check(" ".join([wrapper.name, command.word, "--newer", *path]), answer)
     clone.put_program(wrapper.name, "echo why >&2\nexit 2\n")
     answer = clone.run([wrapper.name, *first_command(wrapper)])
     results.check("%s, what the program says on standard error" % wrapper.name, exactly(answer, 2, "", "why\n"))
