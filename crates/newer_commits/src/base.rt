@@ -6,7 +6,7 @@ ghost use Rattle.gix_commitgraph.specs.GraphLookup.{position_number};
 ghost use Rattle.commit_search.specs.Source.{Told};
 
 use commit_search::CommitSource;
-use gix_hash_core::oid;
+use gix_hash_core::{ObjectId, oid};
 use graph_format::Position;
 
 /// A source whose commits can be found by their ids, so that newer ones can be added on top.
@@ -19,6 +19,9 @@ pub trait Base: CommitSource {
 
     /// The lookup of an id may answer this.
     ghost finds: { Facts → List ℕ → Option ℕ → Type 0 };
+
+    /// The commit at a position may have this id.
+    ghost has_id: { Facts → ℕ → List ℕ → Type 0 };
 
     /// How many layers there are.
     ghost layers: { Facts → ℕ };
@@ -40,6 +43,18 @@ pub trait Base: CommitSource {
             finds (facts self.old) (oid_bytes id.entry) (position_number answer)) }
         ensures within { IfOk result (λ answer.
             IfSome answer (λ pos. pos.0 < Self.count (Self.known self.old))) }
+        ensures failed { IfErr result (Self.may_fail (Self.known self.old)) };
+
+    /// The id of the commit at a position.
+    ///
+    /// # Errors
+    ///
+    /// A read failed.
+    fn id_at(&mut self, pos: Position) -> Result<ObjectId, Self::Error>
+        requires { pos.0 < Self.count (Self.known self.old) }
+        ensures known { Self.known self.new ≡ Self.known self.old }
+        ensures kept { (t : Told) → Self.says self.new t → Self.says self.old t }
+        ensures id { IfOk result (has_id (facts self.old) pos.0) }
         ensures failed { IfErr result (Self.may_fail (Self.known self.old)) };
 
     /// It is the same as long as all that is known of the source is.

@@ -7,7 +7,7 @@ ghost use Rattle.newer_commits.specs.SameKnowledge.{follow_each};
 
 use crate::base::Base;
 use commit_search::CommitSource;
-use gix_hash_core::oid;
+use gix_hash_core::{ObjectId, oid};
 use graph_format::Position;
 use graph_format::parents::{ExtraEdge, ParentEdge};
 
@@ -94,6 +94,8 @@ impl<B: Base> Base for BaseOrNone<B> {
 
     ghost finds = { λ f id answer. MatchOption f (answer ≡ None) (λ base. B.finds base id answer) };
 
+    ghost has_id = { λ f p id. MatchOption f ⊥ (λ base. B.has_id base p id) };
+
     ghost layers = { λ f. option_map_or B.layers f 0 };
 
     ghost follow = { λ one other same.
@@ -110,6 +112,13 @@ impl<B: Base> Base for BaseOrNone<B> {
         match &mut self.base {
             Some(base) => base.position_of(id),
             None => Ok(None),
+        }
+    }
+
+    fn id_at(&mut self, pos: Position) -> Result<ObjectId, B::Error> {
+        match &mut self.base {
+            Some(base) => base.id_at(pos),
+            None => unreachable!(),
         }
     }
 }

@@ -1,13 +1,14 @@
 //! A right graph in memory, as a base.
 
-ghost use Rattle.std.specs.Prelude.{List, length};
+ghost use Rattle.std.specs.Prelude.{◌≡◌, List, Some, length, slice_get};
 ghost use Rattle.graph_format.specs.Layer.{Layer};
+ghost use Rattle.gix_commitgraph.specs.Graph.{graph_ids};
 ghost use Rattle.gix_commitgraph.specs.GraphLookup.{FoundIn};
 
 use crate::base::Base;
 use gix_commitgraph::Position;
 use gix_commitgraph::law::graph::the_commits_of_layers_add_up;
-use gix_hash_core::oid;
+use gix_hash_core::{ObjectId, oid};
 use graph_ancestors::InMemory;
 use std::alloc::AllocError;
 
@@ -18,6 +19,8 @@ impl<'g> Base for InMemory<'g> {
     ghost facts = { λ layers. layers };
 
     ghost finds = { λ layers id answer. FoundIn layers id answer };
+
+    ghost has_id = { λ layers p id. slice_get (graph_ids layers) p ≡ Some id };
 
     ghost layers = { λ layers. length layers };
 
@@ -30,5 +33,9 @@ impl<'g> Base for InMemory<'g> {
     fn position_of(&mut self, id: oid<'_>) -> Result<Option<Position>, AllocError> {
         the_commits_of_layers_add_up();
         Ok(self.graph().lookup(id))
+    }
+
+    fn id_at(&mut self, pos: Position) -> Result<ObjectId, AllocError> {
+        Ok(self.graph().id_at(pos).to_owned())
     }
 }

@@ -6,12 +6,12 @@ ghost use Rattle.graph_walks.specs.History.{generation_at};
 ghost use Rattle.gix_commitgraph.specs.GraphLookup.{position_number};
 ghost use Rattle.commit_search.specs.Source.{Told};
 ghost use Rattle.newer_commits.specs.CommitsOnTop.{end_of_top, nodes_on_top};
-ghost use Rattle.newer_commits.specs.Finding.{Finds};
+ghost use Rattle.newer_commits.specs.Finding.{Finds, HasId};
 ghost use Rattle.newer_commits.specs.JoinedHistory.{AreNumberedOnTop, joined_history};
 
 use crate::base::Base;
 use crate::commits::NewerCommits;
-use gix_hash_core::{Kind, oid};
+use gix_hash_core::{Kind, ObjectId, oid};
 use graph_format::Position;
 use std::alloc::Global;
 
@@ -75,6 +75,27 @@ impl<S: Base> Newer<S> {
         match self.base.position_of(id)? {
             Some(pos) => Ok(Some(pos)),
             None => Ok(self.commits.position_of(id)),
+        }
+    }
+
+    /// The id of the commit at a position.
+    ///
+    /// # Errors
+    ///
+    /// A read of the base failed.
+    pub fn id_at(&mut self, pos: Position) -> Result<ObjectId, S::Error>
+        requires { pos.0 < end_of_top self.old.commits }
+        ensures known { S.known self.new.base ≡ S.known self.old.base }
+        ensures kept { (t : Told) → S.says self.new.base t → S.says self.old.base t }
+        ensures kind { self.new.kind ≡ self.old.kind }
+        ensures commits { self.new.commits ≡ self.old.commits }
+        ensures id { IfOk result (HasId (S.has_id (S.facts self.old.base)) self.old.commits pos.0) }
+        ensures failed { IfErr result (S.may_fail (S.known self.old.base)) }
+    {
+        if pos.0 < self.base.num_commits() {
+            self.base.id_at(pos)
+        } else {
+            Ok(self.commits.id_at(pos))
         }
     }
 
