@@ -110,6 +110,7 @@ impl<'d, S: Base> DatedCommits<'d, S> {
         requires others { All (λ other. other.0 < end_of_top self.old.commits.commits)
             others.now }
         ensures known { S.known self.new.commits.base ≡ S.known self.old.commits.base }
+        ensures kind { self.new.commits.kind ≡ self.old.commits.kind }
         ensures commits { self.new.commits.commits ≡ self.old.commits.commits }
         ensures dates { self.new.dates ≡ self.old.dates }
         ensures within { IfOk result (λ comparison.

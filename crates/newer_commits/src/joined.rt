@@ -1,6 +1,7 @@
 //! A base with newer commits on top, as a source of commits.
 
 ghost use Rattle.std.specs.Prelude.{◌≡◌, ◌+◌, ◌==◌, if◌then◌else◌, length};
+ghost use Rattle.gix_hash_core.specs.declared.kind.Kind.{Kind};
 ghost use Rattle.commit_search.specs.Source.{Told};
 ghost use Rattle.newer_commits.specs.CommitsOnTop.{CommitsOnTop};
 ghost use Rattle.newer_commits.specs.JoinedHistory.{IsListedInJoined, LiesInJoined, joined_with};
@@ -16,9 +17,9 @@ use graph_format::parents::{ExtraEdge, ParentEdge};
 impl<S: Base> CommitSource for Newer<S> {
     type Error = S::Error;
 
-    ghost Known = { S.Known × S.Facts × CommitsOnTop };
+    ghost Known = { S.Known × S.Facts × CommitsOnTop × Kind };
 
-    ghost known = { λ n. (S.known n.base, S.facts n.base, n.commits) };
+    ghost known = { λ n. (S.known n.base, S.facts n.base, n.commits, n.kind) };
 
     ghost says = { λ n t. (b : Told) × S.says n.base b
         × (t ≡ joined_with (S.layers (S.facts n.base)) n.commits b) };

@@ -1,5 +1,6 @@
 use Rattle.std.proofs.Common.{◌≡◌, ◌∙◌, ◌+◌, ◌<◌, ℕ, All, ap, length, refl, subst, sym}
 use Rattle.std.proofs.lemmas.Result.{IfOk-weaker}
+use Rattle.gix_hash_core.specs.declared.kind.Kind.{Kind}
 use Rattle.commit_search.specs.Positions.{numbers_of}
 use Rattle.graph_format.specs.declared.Position.{Position}
 use Rattle.graph_bases.specs.Bases.{IsCommonAncestor}
@@ -27,7 +28,7 @@ returns-clause-common g c =
     let after = c.compare_by-compared.new.commits in
     let layer = g.S.Base.layers (g.S.Base.facts after.base) in
     let same : after.commits ≡ before.commits =
-    ap (λ (k : g.S.CommitSource.Known × g.S.Base.Facts × CommitsOnTop). k.2) c.compare_by-compared.ensures.known in
+    ap (λ (k : g.S.CommitSource.Known × g.S.Base.Facts × CommitsOnTop × Kind). k.2) c.compare_by-compared.ensures.known in
     IfOk-weaker c.compare_by-compared.result _ _ (λ comparison common. λ t told.
     subst
     (λ (top : CommitsOnTop). All (λ (base : Position). IsCommonAncestor (joined_history t.history (nodes_on_top top))
@@ -43,9 +44,9 @@ returns-clause-exact g c =
     let after = c.compare_by-compared.new.commits in
     let dates = c.args.self.now.dates in
     let layer = g.S.Base.layers (g.S.Base.facts after.base) in
-    let known = ap (λ (k : g.S.CommitSource.Known × g.S.Base.Facts × CommitsOnTop). k.0) c.compare_by-compared.ensures.known in
+    let known = ap (λ (k : g.S.CommitSource.Known × g.S.Base.Facts × CommitsOnTop × Kind). k.0) c.compare_by-compared.ensures.known in
     let same : after.commits ≡ before.commits =
-    ap (λ (k : g.S.CommitSource.Known × g.S.Base.Facts × CommitsOnTop). k.2) c.compare_by-compared.ensures.known in
+    ap (λ (k : g.S.CommitSource.Known × g.S.Base.Facts × CommitsOnTop × Kind). k.2) c.compare_by-compared.ensures.known in
     IfOk-weaker c.compare_by-compared.result _ _ (λ comparison exact. λ t told along.
     let many : length t.history ≡ before.commits.below =
     c.num_commits-commits.ensures.told t told ∙ c.num_commits-commits.ensures.count ∙ ap count known ∙ sym before.below in

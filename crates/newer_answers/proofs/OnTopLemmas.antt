@@ -1,0 +1,1 @@
+-- What a search over a base and newer commits answers, of all that the base may say.

@@ -1,0 +1,2 @@
+pub mod AnswersOnTop
+pub mod FoundOnTop

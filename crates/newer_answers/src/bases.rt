@@ -1,0 +1,108 @@
+//! Merge bases, and how far commits have come apart, by their ids.
+
+ghost use Rattle.std.specs.Prelude.{◌≡◌, ◌⊎◌, ◌<◌, ◌∷◌, All, IfErr, IfOk, alloc_error};
+ghost use Rattle.gix_hash_core.specs.Oid.{oid_bytes};
+ghost use Rattle.commit_search.specs.Positions.{numbers_of};
+ghost use Rattle.answers.specs.FoundOf.{IsFoundOf, OfFirst};
+ghost use Rattle.newer_commits.specs.CommitsOnTop.{end_of_top};
+ghost use Rattle.newer_commits.specs.Finding.{Finds};
+ghost use Rattle.newer_answers.specs.AnswersOnTop.{AreBasesOnTop, IsComparedOnTop, IsKeptOnTop};
+
+use crate::ids::ids_of;
+use crate::lookup::find_all;
+use answers::{Answer, IdComparison};
+use gix_hash_core::{ObjectId, oid};
+use graph_bases::{CoatComparer, CoatTable, Comparison};
+use graph_format::Position;
+use newer_commits::{Base, Newer};
+use std::alloc::Global;
+
+/// What the commit with the first id and those with the others have in common, and the ids of the
+/// merge bases.
+///
+/// # Errors
+///
+/// A read of the base failed, or an allocation.
+pub fn compare<S: Base, T: CoatTable>(
+    alloc: Global,
+    commits: &mut Newer<S>,
+    comparer: &mut CoatComparer<T>,
+    first: oid<'_>,
+    others: &[ObjectId],
+) -> Result<Answer<IdComparison<Vec<ObjectId>>>, S::Error>
+    ensures known { S.known commits.new.base ≡ S.known commits.old.base }
+    ensures kept { IsKeptOnTop (S.layers (S.facts commits.old.base)) commits.old.commits
+        (S.says commits.old.base) (S.says commits.new.base) }
+    ensures kind { commits.new.kind ≡ commits.old.kind }
+    ensures commits { commits.new.commits ≡ commits.old.commits }
+    ensures found { IfOk result (IsFoundOf
+        (Finds (S.finds (S.facts commits.old.base)) commits.old.commits)
+        (OfFirst (IsComparedOnTop (S.says commits.new.base) (S.has_id (S.facts commits.old.base))
+        commits.old.commits)) (oid_bytes first.entry ∷ others.now)) }
+    ensures refused { IfErr result (λ e. S.may_fail (S.known commits.old.base) e
+        ⊎ S.Error.from_gives alloc_error e) }
+{
+    match find_all(alloc, commits, first, others)? {
+        Answer::Unknown(number) => Ok(Answer::Unknown(number)),
+        Answer::Known((first, others)) => {
+            let compared = compare_at(alloc, commits, comparer, first, &others)?;
+            Ok(Answer::Known(compared))
+        }
+    }
+}
+
+/// What the commits at some positions have in common, with the ids of the merge bases.
+fn compare_at<S: Base, T: CoatTable>(
+    alloc: Global,
+    commits: &mut Newer<S>,
+    comparer: &mut CoatComparer<T>,
+    first: Position,
+    others: &[Position],
+) -> Result<IdComparison<Vec<ObjectId>>, S::Error>
+    requires first { first.0 < end_of_top commits.old.commits }
+    requires others { All (λ other. other.0 < end_of_top commits.old.commits) others.now }
+    ensures known { S.known commits.new.base ≡ S.known commits.old.base }
+    ensures kept { IsKeptOnTop (S.layers (S.facts commits.old.base)) commits.old.commits
+        (S.says commits.old.base) (S.says commits.new.base) }
+    ensures kind { commits.new.kind ≡ commits.old.kind }
+    ensures commits { commits.new.commits ≡ commits.old.commits }
+    ensures compared { IfOk result (IsComparedOnTop (S.says commits.new.base)
+        (S.has_id (S.facts commits.old.base)) commits.old.commits first.0
+        (numbers_of others.now)) }
+    ensures refused { IfErr result (λ e. S.may_fail (S.known commits.old.base) e
+        ⊎ S.Error.from_gives alloc_error e) }
+{
+    let comparison = bases_of(commits, comparer, first, others)?;
+    let base_ids = ids_of(alloc, commits, &comparison.bases.positions)?;
+    Ok(IdComparison {
+        comparison,
+        base_ids,
+    })
+}
+
+/// What the commits at some positions have in common.
+fn bases_of<S: Base, T: CoatTable>(
+    commits: &mut Newer<S>,
+    comparer: &mut CoatComparer<T>,
+    first: Position,
+    others: &[Position],
+) -> Result<Comparison, S::Error>
+    requires first { first.0 < end_of_top commits.old.commits }
+    requires others { All (λ other. other.0 < end_of_top commits.old.commits) others.now }
+    ensures known { S.known commits.new.base ≡ S.known commits.old.base }
+    ensures kept { IsKeptOnTop (S.layers (S.facts commits.old.base)) commits.old.commits
+        (S.says commits.old.base) (S.says commits.new.base) }
+    ensures kind { commits.new.kind ≡ commits.old.kind }
+    ensures commits { commits.new.commits ≡ commits.old.commits }
+    ensures within { IfOk result (λ compared.
+        All (λ base. base.0 < end_of_top commits.old.commits) compared.bases.positions.items) }
+    ensures compared { IfOk result (AreBasesOnTop (S.says commits.new.base) commits.old.commits
+        first.0 (numbers_of others.now)) }
+    ensures refused { IfErr result (λ e. S.may_fail (S.known commits.old.base) e
+        ⊎ S.Error.from_gives alloc_error e) }
+{
+    let compared = comparer.compare(commits, first, others);
+    // By its contract the newer commits are numbered by their parents, in all that the base says.
+    let _newer = commits.num_newer();
+    compared
+}
