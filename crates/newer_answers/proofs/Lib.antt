@@ -1,1 +1,3 @@
+pub mod KeptOnTopLemmas
 pub mod OnTopLemmas
+pub mod PlaceOnTopLemmas
