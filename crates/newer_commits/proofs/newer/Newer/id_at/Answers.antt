@@ -9,4 +9,4 @@ returns-then-pos-num_commits-clause-id g c =
     c.id_at.ensures.id
 
 pub returns-else-pos-num_commits-clause-id : goal.returns-else-pos-num_commits-clause-id
-returns-else-pos-num_commits-clause-id g c = inr c.id_at.ensures
+returns-else-pos-num_commits-clause-id g c = inr c.id_at-else-pos-num_commits.ensures
