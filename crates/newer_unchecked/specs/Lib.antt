@@ -1,0 +1,3 @@
+pub mod SameLent
+pub mod OnTop
+pub mod Added
