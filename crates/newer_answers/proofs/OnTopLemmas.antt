@@ -1,9 +1,7 @@
 -- What a search over a base and newer commits answers, of all that the base may say.
-use Rattle.std.proofs.Common.{◌≡◌, ℕ, ◌+◌, ◌*◌, ◌<◌, ◌≤◌, List, [], ◌∷◌, All, Bool, IsTrue, IfNone, IfSome, IfOk, Option, None}
-use Rattle.std.proofs.Common.{Some, Result, Ok, Err, Vec, length, refl, subst, arith}
+use Rattle.std.proofs.Common.{◌≡◌, ℕ, ◌*◌, ◌<◌, ◌≤◌, List, [], ◌∷◌, All, Bool, IsTrue, IfNone, IfSome, IfOk, Option, None}
+use Rattle.std.proofs.Common.{Some, Result, Ok, Err, Vec, length, refl, subst}
 use Rattle.std.specs.Global.{Global}
-use Rattle.std.specs.List.{AllZip}
-use Rattle.std.proofs.lemmas.List.{length-map}
 use Rattle.std.proofs.lemmas.List.Elements.{All-cons, All-nil}
 use Rattle.graph_walks.specs.History.{Node}
 use Rattle.graph_walks.specs.Walks.{CountWalks, IsWalk, IsWalkBetween, Reaches}
@@ -17,7 +15,7 @@ use Rattle.graph_bases.specs.Comparison.{IsComparisonIn}
 use Rattle.graph_bases.specs.declared.bases.Comparison.{Comparison}
 use Rattle.newer_commits.specs.CommitsOnTop.{CommitsOnTop, end_of_top, nodes_on_top}
 use Rattle.newer_commits.specs.JoinedHistory.{AreNumberedOnTop, joined_with}
-use Rattle.newer_commits.proofs.HistoryLemmas.{joined_counts, joined_length}
+use Rattle.newer_commits.proofs.HistoryLemmas.{joined_counts}
 use Rattle.newer_answers.specs.AnswersOnTop.{AreBasesOnTop, IsToldOnTop, LeadsOnTop, NeverLeadsOnTop, all_history}
 use Rattle.newer_answers.proofs.KeptOnTopLemmas.{JoinedSays}
 use Rattle.newer_answers.proofs.PlaceOnTopLemmas.{all_below}
@@ -43,12 +41,12 @@ module _ (says : Told → Type 0) (layer : ℕ) (top : CommitsOnTop)
       → IfOk r (λ told. (t : Told) → JoinedSays layer top says t → IsTrue told → Reaches t.history second first)
       → IfOk r (λ told. (t : Told) → JoinedSays layer top says t → CountWalks t.history → Reaches t.history second first
       → IsTrue told) → IfOk r (IsToldOnTop says top first second)
-  told_answered first second (Ok told) yes no = record {
-    yes = of_all (λ (h : List Node). IsTrue told → Reaches h second first) yes;
+  told_answered first second (Ok told) so not_so = record {
+    yes = of_all (λ (h : List Node). IsTrue told → Reaches h second first) so;
     no = λ t said counts.
-        of_all (λ (h : List Node). CountWalks h → Reaches h second first → IsTrue told) no t said (all_count t said counts);
+        of_all (λ (h : List Node). CountWalks h → Reaches h second first → IsTrue told) not_so t said (all_count t said counts);
   }
-  told_answered first second (Err e) yes no = tt
+  told_answered first second (Err e) so not_so = tt
 
   module _ (from to : ℕ) (reached : Reached)
       (any : (t : Told) → JoinedSays layer top says t → IsAnyAnswer t.history from to reached)
@@ -59,7 +57,7 @@ module _ (says : Told → Type 0) (layer : ℕ) (top : CommitsOnTop)
     right_here : (t : Told) → says t → CountWalks t.history → IsAnswer (all_history top t) from to reached
     right_here t said counts = right (joined_with layer top t) (t, said, refl) (all_count t said counts)
 
-    pub leads_so : (walk : Vec Position Global) → reached.walk ≡ Some walk → LeadsOnTop says top from to (numbers_of walk.items)
+    leads_so : (walk : Vec Position Global) → reached.walk ≡ Some walk → LeadsOnTop says top from to (numbers_of walk.items)
     leads_so walk is = record {
       there = λ t said.
           subst
@@ -71,28 +69,41 @@ module _ (says : Told → Type 0) (layer : ℕ) (top : CommitsOnTop)
           is (right_here t said counts).walk;
     }
 
-    pub never_so : reached.walk ≡ None → NeverLeadsOnTop says top from to
+    never_so : reached.walk ≡ None → NeverLeadsOnTop says top from to
     never_so is = λ t said counts.
         subst (λ (w : Option (Vec Position Global)). IfNone w (¬ Reaches (all_history top t) from to)) is
         (right_here t said counts).none
 
     -- no history has a walk to a position that is not there
-    pub never_past : (walk : Vec Position Global) → reached.walk ≡ Some walk
-        → ((t : Told) → says t → length t.history ≡ top.below)
-        → (¬ All (λ (pos : Position). pos.0 < end_of_top top) walk.items) → NeverLeadsOnTop says top from to
-    never_past walk is many past = λ t said counts.
+    never_past : (walk : Vec Position Global) (count : ℕ) → reached.walk ≡ Some walk
+        → ((t : Told) → JoinedSays layer top says t → length t.history ≡ count)
+        → (¬ All (λ (pos : Position). pos.0 < count) walk.items) → NeverLeadsOnTop says top from to
+    never_past walk count is many past = λ t said counts.
         let between = (leads_so walk is).there t said in
         let below = walk_below (all_history top t) (numbers_of walk.items) between.is_walk in
-        let end : length (all_history top t) ≡ end_of_top top =
-        omega (
-          arith,
-          joined_length t.history (nodes_on_top top),
-          many t said,
-          length-map top.commits (λ commit. commit.node),
-        ) in
         absurd (past
-        (all_below (end_of_top top) walk.items
-        (subst (λ (n : ℕ). All (λ p. p < n) (numbers_of walk.items)) end below)))
+        (all_below count walk.items
+        (subst (λ (n : ℕ). All (λ (p : ℕ). p < n) (numbers_of walk.items)) (of_all (λ (h : List Node). length h ≡ count) many t said)
+        below)))
+
+    -- what is kept of a walk, unless it has a position that is not there
+    pub leads_kept : (kept : Option (Vec Position Global)) → IfSome kept (λ w. reached.walk ≡ Some w)
+        → IfSome kept (λ w. LeadsOnTop says top from to (numbers_of w.items))
+    leads_kept None is = tt
+    leads_kept (Some w) is = leads_so w is
+
+    never_at : (count : ℕ) (found : Option (Vec Position Global)) → reached.walk ≡ found
+        → ((t : Told) → JoinedSays layer top says t → length t.history ≡ count)
+        → IfSome found (λ w. ¬ All (λ (pos : Position). pos.0 < count) w.items) → NeverLeadsOnTop says top from to
+    never_at count None is many past = never_so is
+    never_at count (Some w) is many past = never_past w count is many past
+
+    pub never_kept : (count : ℕ) (kept : Option (Vec Position Global))
+        → ((t : Told) → JoinedSays layer top says t → length t.history ≡ count)
+        → IfNone kept (IfSome reached.walk (λ w. ¬ All (λ (pos : Position). pos.0 < count) w.items))
+        → IfNone kept (NeverLeadsOnTop says top from to)
+    never_kept count None many past = never_at count reached.walk refl many past
+    never_kept count (Some w) many past = tt
 
   pub bases_so : {E : Type 0} (first : ℕ) (others : List ℕ) (r : Result Comparison E)
       → IfOk r (λ compared. compared.bases.visits ≤ 3 * end_of_top top)
@@ -106,3 +117,20 @@ module _ (says : Told → Type 0) (layer : ℕ) (top : CommitsOnTop)
     visits = visits;
   }
   bases_so first others (Err e) visits common exact = tt
+
+-- what is so of all that may be said is so of less
+pub leads_less : (says after : Told → Type 0) (top : CommitsOnTop) (from to : ℕ) (walk : List ℕ) → ((t : Told) → after t → says t)
+    → LeadsOnTop says top from to walk → LeadsOnTop after top from to walk
+leads_less says after top from to walk kept leads = record {
+  there = λ t said. leads.there t (kept t said);
+  shortest = λ t said counts. leads.shortest t (kept t said) counts;
+}
+
+pub bases_less : (says after : Told → Type 0) (top : CommitsOnTop) (first : ℕ) (others : List ℕ) (compared : Comparison)
+    → ((t : Told) → after t → says t) → AreBasesOnTop says top first others compared
+    → AreBasesOnTop after top first others compared
+bases_less says after top first others compared kept are = record {
+  common = λ t said. are.common t (kept t said);
+  exact = λ t said counts. are.exact t (kept t said) counts;
+  visits = are.visits;
+}

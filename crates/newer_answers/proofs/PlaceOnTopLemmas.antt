@@ -1,5 +1,5 @@
 -- The positions where ids are found, and the ids at positions, one after another.
-use Rattle.std.proofs.Common.{◌≡◌, ℕ, ◌+◌, ◌<◌, List, [], ◌∷◌, ◌++◌, All, Option, None, Some, Vec, map, take, slice_get}
+use Rattle.std.proofs.Common.{◌≡◌, ℕ, ◌+◌, ◌<◌, List, [], ◌∷◌, ◌++◌, All, Option, None, Some, Vec, take, slice_get}
 use Rattle.std.proofs.Common.{ap, refl, sym, subst, ◌∙◌}
 use Rattle.std.specs.Global.{Global}
 use Rattle.std.specs.List.{AllZip}
@@ -9,8 +9,11 @@ use Rattle.std.proofs.lemmas.Option.{get_or_from_slice_get, slice_get_within}
 use Rattle.graph_format.specs.declared.Position.{Position}
 use Rattle.commit_search.specs.Positions.{numbers_of}
 use Rattle.answers.specs.FoundOf.{FindsAt, IsFoundOf, OfFirst}
+use Rattle.answers.specs.declared.answer.Answer.{Answer}
 use Rattle.answers.specs.declared.answer.Answer.TheVariants.{Known, Unknown}
 use Rattle.answers.proofs.FoundLemmas.{all_found, later_missing}
+use Rattle.newer_commits.specs.CommitsOnTop.{CommitsOnTop}
+use Rattle.newer_commits.specs.Finding.{Finds, HasId}
 use Rattle.newer_answers.specs.FoundOnTop.{AreAllPlaces, AreOthersPlaces}
 
 zip_push : {A B : Type 0} (R : A → B → Type 0) (xs : List A) (ys : List B) (x : A) (y : B) → AllZip R xs ys → R x y
@@ -73,3 +76,28 @@ all_below bound [] below = All-nil (λ (pos : Position). pos.0 < bound)
 all_below bound (pos ∷ positions) below =
     All-cons (λ (q : Position). q.0 < bound) pos positions (All-head (λ q. q < bound) pos.0 (numbers_of positions) below)
     (all_below bound positions (All-tail (λ q. q < bound) pos.0 (numbers_of positions) below))
+
+-- the same, where the base and the newer commits are named as they were in between
+pub finds_as : {F : Type 0} (finds : F → List ℕ → Option ℕ → Type 0) (f other : F) (top after : CommitsOnTop) (id : List ℕ)
+    (found : Option ℕ) → other ≡ f → after ≡ top → Finds (finds other) after id found → Finds (finds f) top id found
+finds_as {F} finds f other top after id found same are at =
+    subst (λ (x : F). Finds (finds x) top id found) same (subst (λ (t : CommitsOnTop). Finds (finds other) t id found) are at)
+
+pub others_as : {F : Type 0} (finds : F → List ℕ → Option ℕ → Type 0) (f other : F) (top after : CommitsOnTop)
+    (ids : List (List ℕ)) (answer : Answer (Vec Position Global)) → other ≡ f → after ≡ top
+    → AreOthersPlaces (Finds (finds other) after) ids answer → AreOthersPlaces (Finds (finds f) top) ids answer
+others_as {F} finds f other top after ids answer same are at =
+    subst (λ (x : F). AreOthersPlaces (Finds (finds x) top) ids answer) same
+    (subst (λ (t : CommitsOnTop). AreOthersPlaces (Finds (finds other) t) ids answer) are at)
+
+pub has_as : {F : Type 0} (has_id : F → ℕ → List ℕ → Type 0) (f other : F) (top after : CommitsOnTop) (p : ℕ) (id : List ℕ)
+    → other ≡ f → after ≡ top → HasId (has_id other) after p id → HasId (has_id f) top p id
+has_as {F} has_id f other top after p id same are at =
+    subst (λ (x : F). HasId (has_id x) top p id) same (subst (λ (t : CommitsOnTop). HasId (has_id other) t p id) are at)
+
+pub ids_as : {F : Type 0} (has_id : F → ℕ → List ℕ → Type 0) (f other : F) (top after : CommitsOnTop) (ps : List ℕ)
+    (ids : List (List ℕ)) → other ≡ f → after ≡ top → AllZip (HasId (has_id other) after) ps ids
+    → AllZip (HasId (has_id f) top) ps ids
+ids_as {F} has_id f other top after ps ids same are zip =
+    subst (λ (x : F). AllZip (HasId (has_id x) top) ps ids) same
+    (subst (λ (t : CommitsOnTop). AllZip (HasId (has_id other) t) ps ids) are zip)

@@ -1,5 +1,5 @@
 -- For private contracts: the positions where ids are found.
-use Rattle.std.specs.Prelude.{◌≡◌, ℕ, ◌+◌, ◌<◌, List, All, Vec, ⊤, None, Some, slice_get, take}
+use Rattle.std.specs.Prelude.{◌≡◌, ℕ, ◌+◌, ◌<◌, List, All, Option, Vec, ⊤, None, Some, slice_get, take}
 use Rattle.std.specs.Global.{Global}
 use Rattle.std.specs.List.{AllZip}
 use Rattle.graph_format.specs.declared.Position.{Position}

@@ -38,7 +38,8 @@ pub fn is_ancestor<S: Base, M: Marks>(
     ensures refused { IfErr result (λ e. S.may_fail (S.known commits.old.base) e
         ⊎ S.Error.from_gives alloc_error e) }
 {
-    match find_both(commits, first, second)? {
+    let found = find_both(commits, first, second)?;
+    match found {
         Answer::Unknown(number) => Ok(Answer::Unknown(number)),
         Answer::Known((first, second)) => {
             let told = told_between(commits, searcher, first, second)?;

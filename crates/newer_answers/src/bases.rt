@@ -42,7 +42,8 @@ pub fn compare<S: Base, T: CoatTable>(
     ensures refused { IfErr result (λ e. S.may_fail (S.known commits.old.base) e
         ⊎ S.Error.from_gives alloc_error e) }
 {
-    match find_all(alloc, commits, first, others)? {
+    let found = find_all(alloc, commits, first, others)?;
+    match found {
         Answer::Unknown(number) => Ok(Answer::Unknown(number)),
         Answer::Known((first, others)) => {
             let compared = compare_at(alloc, commits, comparer, first, &others)?;

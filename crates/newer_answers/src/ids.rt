@@ -10,7 +10,7 @@ ghost use Rattle.newer_commits.specs.Finding.{HasId};
 use gix_hash_core::ObjectId;
 use graph_format::Position;
 use newer_commits::{Base, Newer};
-use std::alloc::Global;
+use std::alloc::{AllocError, Global};
 
 /// The ids of the commits at some positions, in their order.
 pub(crate) fn ids_of<S: Base>(
@@ -32,7 +32,7 @@ pub(crate) fn ids_of<S: Base>(
     let mut ids = Vec::new(alloc);
     for pos in positions {
         let id = commits.id_at(*pos)?;
-        ids.push(id)?;
+        ids.push(id).map_err(AllocError::from)?;
     }
     Ok(ids)
 }

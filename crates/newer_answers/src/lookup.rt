@@ -13,7 +13,7 @@ use answers::Answer;
 use gix_hash_core::{ObjectId, oid};
 use graph_format::Position;
 use newer_commits::{Base, Newer};
-use std::alloc::Global;
+use std::alloc::{AllocError, Global};
 
 /// The positions of two ids.
 pub(crate) fn find_both<S: Base>(
@@ -61,7 +61,8 @@ pub(crate) fn find_all<S: Base>(
     let Some(first) = commits.position_of(first)? else {
         return Ok(Answer::Unknown(1));
     };
-    match find_others(alloc, commits, others)? {
+    let found = find_others(alloc, commits, others)?;
+    match found {
         Answer::Unknown(number) => Ok(Answer::Unknown(number)),
         Answer::Known(others) => Ok(Answer::Known((first, others))),
     }
@@ -88,7 +89,7 @@ fn find_others<S: Base>(
         let Some(pos) = commits.position_of(id.as_oid())? else {
             return Ok(Answer::Unknown(place as u64 + 2));
         };
-        found.push(pos)?;
+        found.push(pos).map_err(AllocError::from)?;
     }
     Ok(Answer::Known(found))
 }

@@ -1,7 +1,7 @@
 //! Walks along parents, by the ids of their commits.
 
-ghost use Rattle.std.specs.Prelude.{◌≡◌, ◌↔◌, ◌⊎◌, ◌<◌, [], ◌∷◌, All, IfErr, IfNone, IfOk, IfSome};
-ghost use Rattle.std.specs.Prelude.{IsTrue, alloc_error};
+ghost use Rattle.std.specs.Prelude.{◌≡◌, ◌⊎◌, ◌<◌, [], ◌∷◌, All, IfErr, IfNone, IfOk, IfSome, Some};
+ghost use Rattle.std.specs.Prelude.{alloc_error};
 ghost use Rattle.gix_hash_core.specs.Oid.{oid_bytes};
 ghost use Rattle.commit_search.specs.Positions.{numbers_of};
 ghost use Rattle.answers.specs.FoundOf.{IsFoundOf, OfTwo};
@@ -44,7 +44,8 @@ pub fn ancestor_walk<S: Base, M: Marks>(
     ensures refused { IfErr result (λ e. S.may_fail (S.known commits.old.base) e
         ⊎ S.Error.from_gives alloc_error e) }
 {
-    match find_both(commits, first, second)? {
+    let found = find_both(commits, first, second)?;
+    match found {
         Answer::Unknown(number) => Ok(Answer::Unknown(number)),
         Answer::Known((first, second)) => {
             let walk = walk_between(alloc, commits, searcher, first, second)?;
@@ -73,7 +74,8 @@ fn walk_between<S: Base, M: Marks>(
     ensures refused { IfErr result (λ e. S.may_fail (S.known commits.old.base) e
         ⊎ S.Error.from_gives alloc_error e) }
 {
-    match steps_between(commits, searcher, from, to)? {
+    let found = steps_between(commits, searcher, from, to)?;
+    match found {
         Some(walk) => {
             let ids = ids_of(alloc, commits, &walk)?;
             Ok(Some(ids))
@@ -109,20 +111,21 @@ fn steps_between<S: Base, M: Marks>(
     let reached = searcher.ancestor_walk(commits, from, to)?;
     // By its contract the newer commits are numbered by their parents, in all that the base says.
     let _newer = commits.num_newer();
-    let Some(walk) = reached.walk else {
-        return Ok(None);
-    };
-    // A walk in any history that agrees with what was read has only commits that are there.
-    if are_below(&walk, commits.num_commits()) {
-        Ok(Some(walk))
-    } else {
-        Ok(None)
-    }
+    Ok(unless_past(reached.walk, commits.num_commits()))
 }
 
-/// Whether these positions are among the first of so many.
-fn are_below(positions: &[Position], count: u32) -> bool
-    ensures { IsTrue result ↔ All (λ pos. pos.0 < count) positions.now }
+/// A walk, unless it has a position past the first of so many. In a history that agrees with all
+/// that was read there is no such walk.
+fn unless_past(walk: Option<Vec<Position>>, count: u32) -> Option<Vec<Position>>
+    ensures same { IfSome result (λ kept. walk ≡ Some kept) }
+    ensures within { IfSome result (λ kept. All (λ pos. pos.0 < count) kept.items) }
+    ensures none { IfNone result (IfSome walk (λ steps.
+        ¬ All (λ pos. pos.0 < count) steps.items)) }
 {
-    positions.iter().all(|pos| pos.0 < count)
+    let walk = walk?;
+    if walk.iter().all(|pos| pos.0 < count) {
+        Some(walk)
+    } else {
+        None
+    }
 }

@@ -13,12 +13,12 @@ use std::alloc::{AllocError, Global};
 use std::process::Abort;
 
 /// Commits on top of none.
-type OnNone = Newer<BaseOrNone<InMemory<'static>>>;
+pub type OnNone = Newer<BaseOrNone<InMemory<'static>>>;
 
-type Error = CompleteError<AllocError>;
+pub type Error = CompleteError<AllocError>;
 
 /// The ids with these digits.
-fn ids_of(rt: &impl Abort, alloc: Global, digits: &[&str]) -> Vec<ObjectId> {
+pub fn ids_of(rt: &impl Abort, alloc: Global, digits: &[&str]) -> Vec<ObjectId> {
     let mut ids = Vec::new(alloc);
     for each in digits {
         ids.push(id_of(rt, each)).ok().expect(rt, "memory");
@@ -40,7 +40,7 @@ fn stream_of(rt: &impl Abort, alloc: Global, digits: &[&str]) -> Vec<u8> {
 }
 
 /// Asks for the commits of a question, and compares what was asked for.
-fn completed(
+pub fn completed(
     rt: &impl Abort,
     alloc: Global,
     newer: &mut OnNone,
@@ -67,7 +67,8 @@ fn completed(
     result
 }
 
-fn on_none(alloc: Global) -> OnNone {
+/// No commits yet, on top of none.
+pub fn on_none(alloc: Global) -> OnNone {
     Newer::new(alloc, Kind::Sha1, BaseOrNone { base: None })
 }
 

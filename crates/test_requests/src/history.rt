@@ -193,3 +193,56 @@ pub const FAULTS: &[(&[&str], &[&str], Fault)] = &[
         Fault::Unknown(2),
     ),
 ];
+
+/// A question whose commits lead to all that are there.
+pub const ALL: Question = (
+    &[OCTOPUS, MERGE, SKIP],
+    &[OCTOPUS, MERGE, SKIP, ROOT, CHILD, LEFT, RIGHT, TIP],
+);
+
+/// Two commits, and whether the first is an ancestor of the second, as `git merge-base
+/// --is-ancestor` tells it; or the number of the first that is not there.
+pub type Told = (&'static str, &'static str, Result<bool, u64>);
+
+/// Along a second parent, the other way, on another branch, the same, and what is not there.
+pub const TOLD: &[Told] = &[
+    (ROOT, MERGE, Ok(true)),
+    (RIGHT, MERGE, Ok(true)),
+    (LEFT, OCTOPUS, Ok(true)),
+    (MERGE, ROOT, Ok(false)),
+    (TIP, MERGE, Ok(false)),
+    (SKIP, SKIP, Ok(true)),
+    (GONE, ROOT, Err(1)),
+    (ROOT, GONE, Err(2)),
+];
+
+/// Two commits, and those on the shortest walk along parents from the first to the second.
+pub type Walk = (&'static str, &'static str, &'static [&'static str]);
+
+/// A line, a parent of a parent, an octopus, one commit, and no walk.
+pub const WALKS: &[Walk] = &[
+    (TIP, ROOT, &[TIP, CHILD, ROOT]),
+    (SKIP, ROOT, &[SKIP, ROOT]),
+    (OCTOPUS, CHILD, &[OCTOPUS, CHILD]),
+    (LEFT, LEFT, &[LEFT]),
+    (ROOT, TIP, &[]),
+];
+
+/// A commit and others, their merge bases, as `git merge-base --all` names them, and how many
+/// commits the first alone and the others alone lead to, as `git rev-list --left-right --count`.
+pub type Compared = (
+    &'static str,
+    &'static [&'static str],
+    &'static [&'static str],
+    u32,
+    u32,
+);
+
+/// One base, two, the commit itself, a parent of a parent, and two others.
+pub const COMPARED: &[Compared] = &[
+    (MERGE, &[TIP], &[ROOT], 3, 2),
+    (OCTOPUS, &[MERGE], &[LEFT, RIGHT], 3, 1),
+    (TIP, &[TIP], &[TIP], 0, 0),
+    (SKIP, &[TIP], &[CHILD], 1, 1),
+    (LEFT, &[TIP, RIGHT], &[ROOT], 1, 3),
+];
