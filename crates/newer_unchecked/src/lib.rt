@@ -3,6 +3,7 @@
 #![tactic(auto)]
 
 mod adding;
+pub mod ancestor;
 mod lent;
 pub mod on_top;
 pub mod position;

@@ -3,12 +3,11 @@
 ghost use Rattle.std.specs.Prelude.{◌≡◌, ◌⊎◌, ℕ, List, IfErr, IfOk, alloc_error};
 ghost use Rattle.std.specs.Option.{ForSome};
 ghost use Rattle.gix_hash_core.specs.Oid.{oid_bytes};
-ghost use Rattle.gix_commitgraph.specs.Graph.{total};
-ghost use Rattle.gix_commitgraph.specs.GraphLookup.{FoundIn};
 ghost use Rattle.graph_unchecked.specs.Trusted.{IsTrustedAt};
 ghost use Rattle.graph_unchecked.specs.Unchecked.{IsAnswerAt};
 ghost use Rattle.graph_unchecked.specs.Unread.{failures_after_reads};
-ghost use Rattle.newer_unchecked.specs.OnTop.{IsOnTop, IsPlaced, IsPlacedOnTop, contents_in};
+ghost use Rattle.newer_unchecked.specs.OnTop.{IsOnTop, IsPlaced, IsPlacedOnTop, IsSoOfGraph};
+ghost use Rattle.newer_unchecked.specs.OnTop.{contents_in};
 
 use crate::adding::add_each;
 use crate::lent::Lent;
@@ -41,7 +40,8 @@ pub fn position_of<T: Folder>(
         → IsTrustedAt (T.tree folder.old) path graph.new }
     ensures answer { (path : List ℕ) → IsTrustedAt (T.tree folder.old) path graph.old
         → ForSome (T.tree folder.old) (λ tree. IfOk result
-        (IsAnswerAt tree path (IsPlacedOnTop (contents_in contents.now) (oid_bytes id.entry)))) }
+        (IsAnswerAt tree path (IsSoOfGraph
+        (IsPlacedOnTop (contents_in contents.now) (oid_bytes id.entry))))) }
 
     // A failed device is answered where a read failed, and nothing else is answered there.
     ensures failures { T.failure_count folder.new
@@ -65,9 +65,8 @@ fn place_in_parts<T: Folder>(
     ensures graph { (path : List ℕ) → IsTrustedAt (T.tree folder.old) path parts.old
         → IsTrustedAt (T.tree folder.old) path parts.new }
     ensures answer { (path : List ℕ) → IsTrustedAt (T.tree folder.old) path parts.old
-        → ForSome (T.tree folder.old) (λ tree. IfOk result (IsAnswerAt tree path (λ layers answer.
-        IsOnTop kind (FoundIn layers) (IsPlaced (total layers) (FoundIn layers)
-        (oid_bytes id.entry)) (contents_in contents.now) answer))) }
+        → ForSome (T.tree folder.old) (λ tree. IfOk result (IsAnswerAt tree path
+        (IsPlacedOnTop (contents_in contents.now) (oid_bytes id.entry) kind))) }
     ensures failures { T.failure_count folder.new
         ≡ failures_after_reads result (T.failure_count folder.old) }
     ensures tree { T.tree folder.new ≡ T.tree folder.old }
