@@ -88,11 +88,10 @@ impl<'a, T: Folder> TrustedCommits<'a, T> {
             → IsTrustedAt (T.tree self.now.folder.now) path before
             → IsTrustedAt (T.tree self.now.folder.now) path self.now.parts.now }
     {
-        if self.failed {
-            Err(Unread::Device)
-        } else {
-            answer
+        if !self.failed {
+            return answer;
         }
+        Err(Unread::Device)
     }
 }
 

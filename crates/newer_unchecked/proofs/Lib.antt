@@ -1,1 +1,3 @@
 pub mod WeakerLemmas
+pub mod AddingLemmas
+pub mod TrustedBaseLemmas

@@ -1,12 +1,12 @@
 //! Commits that are added on top of a base, one after another.
 
-ghost use Rattle.std.specs.Prelude.{◌≡◌, ◌⊎◌, [], ℕ, IfErr, IfOk, IsTrue, IsFalse};
-ghost use Rattle.std.specs.Prelude.{alloc_error, slice_get, take};
-ghost use Rattle.commit_search.specs.Source.{Told};
+ghost use Rattle.std.specs.Prelude.{◌≡◌, ◌⊎◌, [], ℕ, IfErr, IfNone, IfOk, IfSome, IsFalse};
+ghost use Rattle.std.specs.Prelude.{IsTrue, alloc_error};
 ghost use Rattle.newer_commits.specs.Adding.{AddsCommit};
 ghost use Rattle.newer_unchecked.specs.OnTop.{IsNotAdded, contents_in};
-ghost use Rattle.newer_unchecked.specs.Added.{IsAddedUpTo};
+ghost use Rattle.newer_unchecked.specs.Added.{IsAddedUpTo, IsFailure, IsLasting};
 
+use newer_commits::law::added_commits_are_those_with_their_contents;
 use newer_commits::{AddError, Base, Newer};
 use std::alloc::{AllocError, Global};
 
@@ -29,6 +29,7 @@ pub(crate) fn add_each<S: Base>(
     ensures refused { IfErr result (λ e. S.may_fail (S.known commits.old.base) e
         ⊎ S.Error.from_gives alloc_error e) }
 {
+    added_commits_are_those_with_their_contents::<S>();
     for (place, bytes) in contents.iter().enumerate() {
         if !add_one(alloc, commits, bytes)? {
             return Ok(Some(place));
@@ -58,10 +59,27 @@ fn add_one<S: Base>(
     ensures refused { IfErr result (λ e. S.may_fail (S.known commits.old.base) e
         ⊎ S.Error.from_gives alloc_error e) }
 {
-    match commits.add(alloc, contents) {
-        Ok(_) => Ok(true),
-        Err(AddError::Source(error)) => Err(error),
-        Err(AddError::OutOfMemory) => Err(S::Error::from(AllocError)),
-        Err(_) => Ok(false),
+    let error = match commits.add(alloc, contents) {
+        Ok(_) => return Ok(true),
+        Err(error) => error,
+    };
+    match failure_of(error) {
+        Some(failure) => Err(failure),
+        None => Ok(false),
+    }
+}
+
+/// The error of a read or of an allocation, where the commit was not added for that.
+fn failure_of<E: From<AllocError>>(error: AddError<E>) -> Option<E>
+    ensures failure { IfSome result (IsFailure (E.from_gives alloc_error) error) }
+    ensures lasting { IfNone result (IsLasting error) }
+{
+    match error {
+        AddError::Source(failure) => Some(failure),
+        AddError::OutOfMemory => Some(E::from(AllocError)),
+        AddError::Unreadable => None,
+        AddError::Known(_) => None,
+        AddError::Parent { .. } => None,
+        AddError::Full => None,
     }
 }

@@ -53,7 +53,16 @@ pub fn is_ancestor<T: Folder, M: Marks>(
     ensures tree { T.tree folder.new ≡ T.tree folder.old }
 {
     let kind = graph.kind();
-    told_of_parts(alloc, searcher, folder, graph.parts(), kind, contents, first, second)
+    told_of_parts(
+        alloc,
+        searcher,
+        folder,
+        graph.parts(),
+        kind,
+        contents,
+        first,
+        second,
+    )
 }
 
 /// The same of a graph of which these are parts, and whose ids are of this kind.
@@ -106,9 +115,42 @@ fn told_over<S: Base, M: Marks>(
         ⊎ S.Error.from_gives alloc_error e) }
 {
     let mut commits = Newer::new(alloc, kind, Lent { base });
-    if let Some(index) = add_each(alloc, &mut commits, contents)? {
+    let answer = told_on_top(alloc, searcher, &mut commits, contents, first, second);
+    // They are taken apart, so that it is known what has become of the base.
+    let Newer {
+        base: lent,
+        kind: _kind,
+        commits: _commits,
+    } = commits;
+    let Lent { base: _base } = lent;
+    answer
+}
+
+/// The same among the commits of a base on which none stand yet.
+///
+/// # Errors
+///
+/// A read of the base failed, or an allocation.
+fn told_on_top<S: Base, M: Marks>(
+    alloc: Global,
+    searcher: &mut MarkSearcher<M>,
+    commits: &mut Newer<S>,
+    contents: &[Vec<u8>],
+    first: oid<'_>,
+    second: oid<'_>,
+) -> Result<OnTop<Answer<bool>>, S::Error>
+    requires { commits.old.commits.commits ≡ [] }
+    ensures known { S.known commits.new.base ≡ S.known commits.old.base }
+    ensures told { IfOk result (IsOnTop commits.old.kind (S.finds (S.facts commits.old.base))
+        (IsToldOver (S.says commits.new.base) (S.finds (S.facts commits.old.base))
+        (oid_bytes first.entry ∷ oid_bytes second.entry ∷ []))
+        (contents_in contents.now)) }
+    ensures refused { IfErr result (λ e. S.may_fail (S.known commits.old.base) e
+        ⊎ S.Error.from_gives alloc_error e) }
+{
+    if let Some(index) = add_each(alloc, commits, contents)? {
         return Ok(OnTop::NotAdded(index));
     }
-    let told = newer_answers::is_ancestor(&mut commits, searcher, first, second)?;
+    let told = newer_answers::is_ancestor(commits, searcher, first, second)?;
     Ok(OnTop::Answer(told))
 }

@@ -1,6 +1,6 @@
 //! Where an id is found in a trusted graph and among commits newer than it.
 
-ghost use Rattle.std.specs.Prelude.{◌≡◌, ◌⊎◌, ℕ, List, IfErr, IfOk, alloc_error};
+ghost use Rattle.std.specs.Prelude.{◌≡◌, ◌⊎◌, [], ℕ, List, IfErr, IfOk, alloc_error};
 ghost use Rattle.std.specs.Option.{ForSome};
 ghost use Rattle.gix_hash_core.specs.Oid.{oid_bytes};
 ghost use Rattle.graph_unchecked.specs.Trusted.{IsTrustedAt};
@@ -96,7 +96,37 @@ fn place_over<S: Base>(
         ⊎ S.Error.from_gives alloc_error e) }
 {
     let mut commits = Newer::new(alloc, kind, Lent { base });
-    if let Some(index) = add_each(alloc, &mut commits, contents)? {
+    let answer = place_on_top(alloc, &mut commits, contents, id);
+    // They are taken apart, so that it is known what has become of the base.
+    let Newer {
+        base: lent,
+        kind: _kind,
+        commits: _commits,
+    } = commits;
+    let Lent { base: _base } = lent;
+    answer
+}
+
+/// The same among the commits of a base on which none stand yet.
+///
+/// # Errors
+///
+/// A read of the base failed, or an allocation.
+fn place_on_top<S: Base>(
+    alloc: Global,
+    commits: &mut Newer<S>,
+    contents: &[Vec<u8>],
+    id: oid<'_>,
+) -> Result<OnTop<Option<Position>>, S::Error>
+    requires { commits.old.commits.commits ≡ [] }
+    ensures known { S.known commits.new.base ≡ S.known commits.old.base }
+    ensures placed { IfOk result (IsOnTop commits.old.kind (S.finds (S.facts commits.old.base))
+        (IsPlaced commits.old.commits.below (S.finds (S.facts commits.old.base))
+        (oid_bytes id.entry)) (contents_in contents.now)) }
+    ensures refused { IfErr result (λ e. S.may_fail (S.known commits.old.base) e
+        ⊎ S.Error.from_gives alloc_error e) }
+{
+    if let Some(index) = add_each(alloc, commits, contents)? {
         return Ok(OnTop::NotAdded(index));
     }
     let place = commits.position_of(id)?;
