@@ -46,7 +46,9 @@ module _ (base other : List ℕ → Option ℕ → Type 0)
           is_new = finds-so (before_newer i top) commit.id None is.is_new;
           said = is.said;
           says = is.says;
-          parents = zip-weaker _ _ (λ parent p. finds-so (before_newer i top) parent (Some p)) is.said.parents commit.node.parents is.parents;
+          parents =
+              zip-weaker _ _ (λ parent p. finds-so (before_newer i top) parent (Some p)) is.said.parents commit.node.parents
+              is.parents;
         };
   }
 

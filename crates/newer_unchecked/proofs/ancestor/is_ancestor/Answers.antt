@@ -17,6 +17,7 @@ pub returns-clause-answer : goal.returns-clause-answer
 returns-clause-answer g c = λ path of tree is.
     let known = g.T.Folder.tree c.args.folder.now in
     let of-parts = subst (IsTrustedAt known path) (sym c.parts.ensures.parts) of in
-    of-kind tree path c.kind-kind.result (IsTold (contents_in c.args.contents.now) (oid_bytes c.args.first ∷ oid_bytes c.args.second ∷ []))
+    let ids = oid_bytes c.args.first ∷ oid_bytes c.args.second ∷ [] in
+    of-kind tree path c.kind-kind.result (IsTold (contents_in c.args.contents.now) ids)
     c.told_of_parts.result (c.kind-kind.ensures known path of tree is)
     (c.told_of_parts.ensures.answer path of-parts tree is)

@@ -18,8 +18,8 @@ returns-clause-told g c =
     let b = commits.base.base.now in
     let last = c.told_on_top-answer.new.commits.base.base.now in
     let ends : _ ≡ last = search rules in
-    subst (λ e. IfOk r (IsOnTop c.args.kind (finds (facts c.args.base.now)) (IsToldOver (says e) (finds (facts c.args.base.now)) ids)
-    contents)) (sym ends)
+    let now = c.args.base.now in
+    subst (λ e. IfOk r (IsOnTop c.args.kind (finds (facts now)) (IsToldOver (says e) (finds (facts now)) ids) contents)) (sym ends)
     (subst (λ x. IfOk r (IsOnTop c.args.kind (finds (facts x)) (IsToldOver (says last) (finds (facts x)) ids) contents)) lent
     (subst (λ (k : Kind). IfOk r (IsOnTop k (finds (facts b)) (IsToldOver (says last) (finds (facts b)) ids) contents))
     c.new-commits.ensures.kind c.told_on_top-answer.ensures.told))
