@@ -11,9 +11,9 @@ use newer_commits::Base;
 
 /// A base that is lent, so that newer commits stand on it for a while.
 #[derive(Drop)]
-pub(crate) struct Lent<'b, S: Base> {
+pub struct Lent<'b, S: Base> {
     /// The base.
-    pub(crate) base: &'b mut S,
+    pub base: &'b mut S,
 }
 
 /// It says what the base says.

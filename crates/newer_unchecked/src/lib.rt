@@ -3,7 +3,12 @@
 #![tactic(auto)]
 
 mod adding;
-pub mod ancestor;
+mod ancestor;
 mod lent;
-pub mod on_top;
-pub mod position;
+mod on_top;
+mod position;
+
+pub use ancestor::is_ancestor;
+pub use lent::Lent;
+pub use on_top::OnTop;
+pub use position::position_of;
