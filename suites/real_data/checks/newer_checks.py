@@ -147,7 +147,7 @@ def ring(histories, repository, word, path, ids):
     guard.cancel()
     git.wait()
     if status != 0 and out:
-        LINES.add((word, out.decode().splitlines()[-1]))
+        LINES.add((word, out.decode().splitlines()[0]))
     return Answer(status, out, err), requests
 
 

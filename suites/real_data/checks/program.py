@@ -49,9 +49,10 @@ class AnyProgram:
             self.hangs += 1
             return HUNG
         if run.returncode != 0 and run.stdout and words:
-            # A graph that `show` refuses is shown before the refusal, `ask` answers until a read fails, and with `--newer` ids come first.
-            is_last = words[0] in ("show", "ask") or "--newer" in words
-            LINES.add((words[0], run.stdout.splitlines()[-1 if is_last else 0].decode()))
+            # With `--newer` the answer stands behind the ids that are asked for, and an empty line.
+            told = (b"\n" + run.stdout).partition(b"\n\n")[2] if "--newer" in words else b""
+            # A graph that `show` refuses is shown before the refusal, and `ask` answers until a read fails.
+            LINES.add((words[0], (told or run.stdout).splitlines()[-1 if words[0] in ("show", "ask") else 0].decode()))
         return Answer(run.returncode, run.stdout or b"", run.stderr)
 
 
