@@ -87,9 +87,14 @@ impl Ring {
         let mut answer = match asked {
             Some((to, from)) => {
                 let mut from = BufReader::with_capacity(1 << 16, from);
-                // What the program wrote up to an error is no answer.
-                let _ = passing.pass(&mut from, to);
-                let answer = listen_to(session, self.tool, from, sink);
+                let answer = match passing.pass(&mut from, to) {
+                    Ok(()) => listen_to(session, self.tool, from, sink),
+                    // It is not known where the answer begins.
+                    Err(_) => {
+                        drop(from);
+                        Answer::unwritten(session.wait(&mut self.tool))
+                    }
+                };
                 passing.end();
                 answer
             }
@@ -113,8 +118,10 @@ struct Passing<'a> {
 }
 
 impl Passing<'_> {
-    /// Passes on lines up to an empty one, or to the end.
-    fn pass(&mut self, from: &mut BufReader<impl Read>, mut to: ChildStdin) -> io::Result<()> {
+    /// Passes on lines up to an empty one, or to the end. Where Git has ended, nobody takes them any
+    /// more: the program still asks until it sees that, and then says so in its answer.
+    fn pass(&mut self, from: &mut BufReader<impl Read>, to: ChildStdin) -> io::Result<()> {
+        let mut to = Some(to);
         let mut counter = None;
         let mut ids = Vec::new();
         loop {
@@ -123,7 +130,7 @@ impl Passing<'_> {
             if !ids.is_empty() {
                 let counter = counter.get_or_insert_with(|| self.begin_counting());
                 self.count(&ids, counter.as_ref());
-                to.write_all(&ids)?;
+                to = to.filter(|mut git| git.write_all(&ids).is_ok());
             }
             if is_end {
                 return Ok(());

@@ -31,6 +31,11 @@ impl Answer {
         Answer { status, line: line.into(), said: String::new(), passed: Passed::Whole }
     }
 
+    /// What is told of a program whose answer did not come.
+    pub fn unwritten(status: i32) -> Self {
+        Answer { passed: Passed::Failed, ..Answer::of(status, "") }
+    }
+
     /// What is said where there is no answer, in the place of what a program said.
     pub fn failed(status: i32, error: &Error) -> Self {
         Answer { said: format!("{NAME}: {error}\n"), ..Answer::of(status, error.to_string()) }
@@ -146,7 +151,7 @@ pub fn not_started(program: &Path, error: &io::Error) -> Answer {
 fn listen(session: &Session, mut child: Child, sink: &mut dyn Sink) -> Answer {
     match child.stdout.take() {
         Some(out) => listen_to(session, child, BufReader::with_capacity(1 << 16, out), sink),
-        None => Answer { passed: Passed::Failed, ..Answer::of(session.wait(&mut child), "") },
+        None => Answer::unwritten(session.wait(&mut child)),
     }
 }
 

@@ -6,6 +6,7 @@ import json
 import os
 import shutil
 import tempfile
+import zlib
 
 from wrappers.spots import Spot, clear, new_clone, put
 
@@ -19,6 +20,18 @@ while read -r old new name; do git cgraph is-ancestor "$old" "$new"; done
 
 DIES = "exec python3 -c 'import os; print(\"%s\", flush=True); os.kill(os.getpid(), 9)'\n" % ("ab" * 20)
 
+ASKS_ON = r"""exec python3 -c '
+import sys, time
+print("ab" * 20, flush=True)
+sys.stdin.read()
+for _ in range(3):
+    print("cd" * 20, flush=True)
+    time.sleep(0.05)
+print("\nrefused newer 1 id " + "ab" * 20)
+sys.exit(1)'
+"""
+"""A program that asks for more after Git has ended, and tells then that the entry of the first commit did not come."""
+
 
 def check_all(results):
     """The checks, each in a repository of its own."""
@@ -26,7 +39,7 @@ def check_all(results):
         clone, root = new_clone(folder), os.path.join(os.path.realpath(folder), "root")
         os.symlink(shutil.which("python3"), os.path.join(clone.folder, "bin", "python3"))
         os.mkdir(root)
-        for check in (check_counts, check_places, check_hook, check_many, check_progress, check_failures):
+        for check in (check_counts, check_places, check_hook, check_many, check_progress, check_failures, check_ended):
             check(results, Spot(clone, root, "plain"))
             clear(root)
         results.check("git cgraph, of newer commits, nothing is left over", clone.left_over())
@@ -115,3 +128,14 @@ def check_failures(results, spot):
     answer = spot.ask("is-ancestor", "main", "ab" * 20)
     right = answer.status == 128 and "ab" * 20 in answer.err
     results.check("git cgraph is-ancestor, of no commit", None if right else "it is %r" % (answer,))
+
+
+def check_ended(results, spot):
+    """Where Git ends at an object that it cannot read, no id that is still asked for is taken for the answer."""
+    broken = os.path.join(spot.common, "objects", "ab", "ab" * 19)
+    put(broken, zlib.compress(b"commit 9\0parent ab")[:-7])
+    spot.clone.put_program("historytool", ASKS_ON, asks=True)
+    answer = spot.ask("is-ancestor", "main~1", "main")
+    right = answer.status == 128 and "ab" * 20 in answer.err and "cd" * 20 not in answer.out + answer.err
+    results.check("git cgraph is-ancestor, Git ends while it is asked", None if right else "it is %r" % (answer,))
+    spot.put_programs()
