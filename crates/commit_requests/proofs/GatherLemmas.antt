@@ -10,7 +10,7 @@ use Rattle.commit_objects.specs.CommitContents.{Said, Says}
 use Rattle.commit_objects.specs.Object.{object_id_of}
 use Rattle.object_requests.specs.Asked.{AreEachOnce, Asked, waiting}
 use Rattle.newer_commits.specs.CommitsOnTop.{CommitsOnTop}
-use Rattle.newer_commits.specs.Finding.{Finds}
+use Rattle.newer_commits.specs.FindingOnTop.{Finds}
 use Rattle.commit_requests.specs.Requested.{AreAskedFor, IsNeeded}
 use Rattle.commit_requests.specs.Gathering.{IsAskOneRefusal, IsAskRefusal}
 use Rattle.commit_requests.specs.declared.error.CompleteError.{CompleteError}

@@ -13,7 +13,7 @@ use Rattle.graph_levels.specs.ParentLists.{commit_count, parent_list}
 use Rattle.graph_levels.specs.declared.lists.ParentLists.{ParentLists}
 use Rattle.newer_commits.specs.Adding.{AddsCommit}
 use Rattle.newer_commits.specs.CommitsOnTop.{CommitsOnTop, NewerCommit, StandsOnTop, ids_on_top}
-use Rattle.newer_commits.specs.Finding.{Finds}
+use Rattle.newer_commits.specs.FindingOnTop.{Finds}
 use Rattle.newer_commits.specs.Adding.{AreThere, IsAddRefusal}
 use Rattle.newer_commits.specs.declared.error.AddError.{AddError}
 use Rattle.newer_commits.specs.declared.error.AddError.TheVariants as add

@@ -11,7 +11,7 @@ use Rattle.object_stream.specs.declared.object_type.ObjectType.TheVariants.{Comm
 use Rattle.object_requests.specs.declared.error.RequestError.{RequestError}
 use Rattle.object_requests.specs.declared.error.RequestError.TheVariants as request
 use Rattle.newer_commits.specs.CommitsOnTop.{CommitsOnTop, end_of_top}
-use Rattle.newer_commits.specs.Finding.{Finds}
+use Rattle.newer_commits.specs.FindingOnTop.{Finds}
 use Rattle.commit_requests.specs.Requested.{IsNeeded, StopsAt}
 use Rattle.commit_requests.specs.declared.error.CompleteError.{CompleteError}
 use Rattle.commit_requests.specs.declared.error.CompleteError.TheVariants as refusal

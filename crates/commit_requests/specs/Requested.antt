@@ -10,7 +10,7 @@ use Rattle.object_stream.specs.declared.object_type.ObjectType.TheVariants.{Comm
 use Rattle.object_requests.specs.Asked.{AreEachOnce, request_line}
 use Rattle.graph_objects.specs.CommitWalks.{NamesParent}
 use Rattle.newer_commits.specs.CommitsOnTop.{CommitsOnTop}
-use Rattle.newer_commits.specs.Finding.{Finds}
+use Rattle.newer_commits.specs.FindingOnTop.{Finds}
 
 -- the lines by which objects are asked for
 abbrev pub request_lines : List (List ℕ) → List ℕ

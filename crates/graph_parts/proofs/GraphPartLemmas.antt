@@ -13,11 +13,11 @@ use Rattle.std.proofs.lemmas.Option.{get_or_from_slice_get, same_Some, slice_get
 use Rattle.std.proofs.lemmas.Slice.Zip.{AllZip-long}
 use Rattle.graph_folder.specs.Tree.{Tree}
 use Rattle.graph_format.specs.Layer.{Layer, record_at}
-use Rattle.gix_commitgraph.specs.Graph.{graph_commits, graph_ids, start, total}
+use Rattle.gix_commitgraph.specs.Graph.{IsGraph, graph_commits, graph_ids, start, total}
 use Rattle.gix_commitgraph.specs.GraphLaw.{LiesIn}
 use Rattle.gix_commitgraph.specs.GraphLookup.{FoundIn}
 use Rattle.gix_commitgraph.proofs.lookup.GraphLookupLemmas.{IsMissed, found_in-counted, found_in-none, missed-more}
-use Rattle.gix_commitgraph.proofs.layers.LayerListLemmas.{graph_commits-counted, graph_ids-counted, size}
+use Rattle.gix_commitgraph.proofs.layers.LayerListLemmas.{graph_commits-counted, graph_ids-counted, kind-first, size}
 use Rattle.graph_format.specs.Lookup.{Found}
 use Rattle.graph_format.specs.Parents.{extra_edge_of}
 use Rattle.graph_format.specs.declared.parents.ExtraEdge.{ExtraEdge}
@@ -32,7 +32,7 @@ use Rattle.graph_parts.specs.declared.layer.LayerParts.{LayerParts}
 use Rattle.graph_parts.specs.declared.layer.StoredCommit.{StoredCommit}
 use Rattle.graph_parts.specs.declared.parts.GraphParts.{GraphParts}
 use Rattle.graph_parts.specs.declared.parts.Spot.{Spot}
-use Rattle.graph_parts.proofs.LayerPartLemmas.{counted-ids, shown-words}
+use Rattle.graph_parts.proofs.LayerPartLemmas.{counted-ids, same-kind, shown-words}
 use Rattle.graph_parts.proofs.ZipLemmas.{all-get, all-set, get-map, get-set, map-set, zip-get, zip-set, zip-unset}
 
 -- the files have as many commits as the parts
@@ -52,6 +52,19 @@ pub get-file : (parts : List LayerParts) (i : ℕ) (part : LayerParts) → slice
 get-file [] i part here = let clash : None ≡ Some part = here in cc
 get-file (p ∷ ps) zero part here = ap (λ (q : LayerParts). Some q.file) (same_Some _ _ here)
 get-file (p ∷ ps) (suc i) part here = get-file ps i part here
+
+-- the kind of the ids of the lowest layer is that of all layers
+pub kind-shown : (known : Option Tree) (parts : List LayerParts) (layers : List Layer) (lowest : LayerParts)
+    → All IsLayerParts parts → slice_get parts 0 ≡ Some lowest → AllZip (ShowsLayer known) parts layers → IsGraph layers
+    → All (λ (layer : Layer). layer.kind ≡ lowest.file.head.layout.kind) layers
+kind-shown known [] layers lowest is here zip graph = let clash : None ≡ Some lowest = here in cc
+kind-shown known (part ∷ parts) [] lowest is here zip graph = absurd zip
+kind-shown known (part ∷ parts) (first ∷ rest) lowest is here zip graph =
+    let one : part ≡ lowest = same_Some _ _ here in
+    λ k d within.
+    kind-first (first ∷ rest) first d k graph refl within
+    ∙ sym (same-kind known part first (All-head IsLayerParts part parts is) zip.0)
+    ∙ ap (λ (p : LayerParts). p.file.head.layout.kind) one
 
 -- a position lies in the part at which those before it are counted
 pub spot-here : (parts : GraphParts) (pos layer left : ℕ) (part : LayerParts)

@@ -53,7 +53,7 @@ module _ (known : Option Tree) (part : LayerParts) (layer : Layer) (is : IsLayer
   kept : IsLayout shows.of.file part.file.head.layout
   kept = is.head.layout.each shows.of.file shows.of.begins
 
-  same-kind : part.file.head.layout.kind ≡ layer.kind
+  pub same-kind : part.file.head.layout.kind ≡ layer.kind
   same-kind =
       view-kind shows.of.file (string_bytes part.file.path) part.file.head.layout layer kept (sym shows.of.decoded)
 

@@ -7,7 +7,7 @@ ghost use Rattle.graph_folder.specs.Tree.{Tree};
 ghost use Rattle.graph_folder.specs.Failures.{failures_after};
 ghost use Rattle.graph_format.specs.Layer.{Layer};
 ghost use Rattle.graph_format.specs.OptionalChunks.{HasDates};
-ghost use Rattle.gix_commitgraph.specs.Graph.{graph_ids, total};
+ghost use Rattle.gix_commitgraph.specs.Graph.{IsGraph, graph_ids, total};
 ghost use Rattle.gix_commitgraph.specs.GraphLaw.{LiesIn};
 ghost use Rattle.graph_parts.specs.Lookups.{LiesWithin, LooksUp};
 ghost use Rattle.graph_parts.specs.PiecesRead.{PartsWereRead};
@@ -22,7 +22,7 @@ pub use crate::layer::StoredCommit;
 pub use crate::lookup::Lookup;
 use gix_commitgraph::Position;
 use gix_commitgraph::file::commit::ExtraEdge;
-use gix_hash_core::{ObjectId, oid};
+use gix_hash_core::{Kind, ObjectId, oid};
 use graph_folder::folder::{Folder, ReadError};
 use std::alloc::Global;
 
@@ -60,6 +60,25 @@ impl GraphParts {
             commits += part.file.head.layout.commits;
         }
         commits
+    }
+
+    /// How many layers the graph has.
+    pub fn num_layers(&self) -> usize
+        ensures { result ≡ length (files_of self.now) }
+    {
+        self.layers.len()
+    }
+
+    /// The kind of the ids of all layers.
+    pub fn kind(&self) -> Kind
+        requires { AreGraphParts self.now }
+        ensures { (known : Option Tree) (layers : List Layer) → Shows known self.now layers
+            → IsGraph layers → All (λ layer. layer.kind ≡ result) layers }
+    {
+        match self.layers.first() {
+            Some(lowest) => lowest.file.head.layout.kind,
+            None => Kind::Sha1,
+        }
     }
 
     /// The layer in which a position lies, 0 for the lowest.

@@ -7,4 +7,5 @@ pub mod IdLemmas
 pub mod PartLookupLemmas
 pub mod RightAnswerLemmas
 pub mod TrustedLemmas
+pub mod BaseLemmas
 pub mod ParentLemmas

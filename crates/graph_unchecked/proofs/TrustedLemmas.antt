@@ -1,5 +1,5 @@
 -- what is asked of a graph of which parts are kept
-use Rattle.std.proofs.Common.{◌∙◌, [], ◌∷◌, ℕ, List, Option, Result, Ok, Err, IfOk, Vec}
+use Rattle.std.proofs.Common.{◌≡◌, ◌∙◌, sym, [], ◌∷◌, ℕ, List, Option, Result, Ok, Err, IfOk, Vec}
 use Rattle.std.specs.Global.{Global}
 use Rattle.std.specs.Option.{ForSome}
 use Rattle.graph_folder.specs.Tree.{Tree}
@@ -9,7 +9,8 @@ use Rattle.gix_commitgraph.specs.Graph.{IsGraph}
 use Rattle.gix_commitgraph.specs.OpenAlways.{IsFromPath}
 use Rattle.commit_search.specs.Positions.{numbers_of}
 use Rattle.graph_parts.specs.PathOpening.{opened_at}
-use Rattle.graph_parts.specs.Shown.{ArePartsOf, SeesMore, Shows}
+use Rattle.graph_parts.specs.OfTree.{AreOfTree}
+use Rattle.graph_parts.specs.Shown.{AreGraphParts, ArePartsOf, SeesMore, Shows, files_of}
 use Rattle.graph_parts.specs.declared.parts.GraphParts.{GraphParts}
 use Rattle.graph_parts.proofs.TreeLemmas.{seen-shown}
 use Rattle.graph_unchecked.specs.PartSource.{ReadsOn}
@@ -58,6 +59,22 @@ of-read known path old new reads of = record {
         opens = at.opens;
         graph = at.graph;
         so = shows-after known tree is old new at.layers reads.same (reads.of of.of) at.so;
+      };
+}
+
+-- and so are others of the same files in the tree
+pub of-same : (known : Option Tree) (path : List ℕ) (old new : GraphParts) → AreGraphParts new → AreOfTree known new
+    → files_of old ≡ files_of new → IsTrustedAt known path old → IsTrustedAt known path new
+of-same known path old new right of-tree same of = record {
+  right = right;
+  of = of-tree;
+  opened = λ tree is.
+      let at = of.opened tree is in
+      record {
+        layers = at.layers;
+        opens = at.opens;
+        graph = at.graph;
+        so = shows-after known tree is old new at.layers (sym same) of-tree at.so;
       };
 }
 

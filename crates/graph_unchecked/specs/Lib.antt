@@ -6,4 +6,6 @@ pub mod PartLookups
 pub mod PartSearches
 pub mod NamedParents
 pub mod Trusted
+pub mod KnownLayers
+pub mod Lending
 pub mod Unread

@@ -29,6 +29,11 @@ pub record KnownParts : Type 0 where
   pub folder : ℕ
   pub parts : ℕ
 
+-- that of these parts, read in a folder of this tree, where so many reads had failed before; both are behind these references
+abbrev pub known_parts : Option Tree → GraphParts → ℕ → ℕ → ℕ → KnownParts
+known_parts tree parts failures folder_name parts_name =
+    record { tree = tree; files = files_of parts; failures = failures; folder = folder_name; parts = parts_name }
+
 -- how many words of the extra edge list of a file have a number of 32 bits
 abbrev pub word_total : List ChainLayer → ℕ → ℕ
 word_total files l = min (option_map_or edge_count (slice_get files l) 0) 4294967295

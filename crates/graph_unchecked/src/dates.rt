@@ -3,7 +3,7 @@
 ghost use Rattle.graph_unchecked.specs.PartSource.{told_dates};
 
 use crate::reads::read_date;
-use crate::source::PartCommits;
+use crate::source::TrustedCommits;
 use crate::unread::Unread;
 use commit_search::Ranks;
 use gix_commitgraph::Position;
@@ -14,14 +14,14 @@ use graph_folder::folder::Folder;
 #[derive(Clone, Copy)]
 pub(crate) struct PartDates;
 
-impl<'a, T: Folder> Ranks<PartCommits<'a, T>> for PartDates {
+impl<'a, T: Folder> Ranks<TrustedCommits<'a, T>> for PartDates {
     ghost ranking = { λ _ t. told_dates t };
 
     fn cap(&self) -> u64 {
         u64::MAX
     }
 
-    fn rank(&self, commits: &mut PartCommits<'a, T>, pos: Position) -> Result<u64, Unread> {
+    fn rank(&self, commits: &mut TrustedCommits<'a, T>, pos: Position) -> Result<u64, Unread> {
         if commits.failed {
             return Err(Unread::NotByParts);
         }

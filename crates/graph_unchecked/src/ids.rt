@@ -41,7 +41,7 @@ pub(crate) fn read_ids<T: Folder>(
 }
 
 /// The id of the commit at a position.
-fn read_id<T: Folder>(
+pub(crate) fn read_id<T: Folder>(
     alloc: Global,
     folder: &mut T,
     parts: &mut GraphParts,

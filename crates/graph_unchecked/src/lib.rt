@@ -1,6 +1,7 @@
 //! Questions about commits of a graph that is trusted: its files are read by parts, unchecked.
 #![tactic(auto)]
 
+mod base;
 mod dates;
 mod fields;
 mod ids;
@@ -9,6 +10,6 @@ mod lookup;
 mod reads;
 mod record;
 mod search;
-mod source;
+pub mod source;
 pub mod trusted;
 pub mod unread;

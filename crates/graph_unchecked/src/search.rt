@@ -20,7 +20,7 @@ ghost use Rattle.graph_unchecked.specs.Unread.{failures_after_reads};
 use crate::dates::PartDates;
 use crate::ids::read_ids;
 use crate::lookup::{find_all, find_both};
-use crate::source::PartCommits;
+use crate::source::TrustedCommits;
 use crate::unread::Unread;
 use answers::{Answer, IdComparison};
 use commit_search::FewSearcher;
@@ -149,7 +149,7 @@ fn told_of<T: Folder>(
         ≡ failures_after_reads result (T.failure_count folder.old) }
 {
     let failures = folder.failures();
-    let mut commits = PartCommits {
+    let mut commits = TrustedCommits {
         alloc,
         folder,
         parts,
@@ -214,7 +214,7 @@ fn walk_between<T: Folder>(
         ≡ failures_after_reads result (T.failure_count folder.old) }
 {
     let failures = folder.failures();
-    let mut commits = PartCommits {
+    let mut commits = TrustedCommits {
         alloc,
         folder,
         parts,
@@ -318,7 +318,7 @@ fn bases_by_generations<T: Folder>(
         ≡ failures_after_reads result (T.failure_count folder.old) }
 {
     let failures = folder.failures();
-    let mut commits = PartCommits {
+    let mut commits = TrustedCommits {
         alloc,
         folder,
         parts,
@@ -360,7 +360,7 @@ fn bases_by_dates<T: Folder>(
 {
     corrected_dates_fall_along_parents();
     let failures = folder.failures();
-    let mut commits = PartCommits {
+    let mut commits = TrustedCommits {
         alloc,
         folder,
         parts,

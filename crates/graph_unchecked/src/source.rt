@@ -1,13 +1,16 @@
 //! Parts of files, as a source of commits.
 
 ghost use Rattle.std.proofs.Props.{props};
-ghost use Rattle.std.specs.Prelude.{◌≡◌, ◌≢◌, IfErr, IfOk, Ok};
+ghost use Rattle.std.specs.Prelude.{◌≡◌, ◌≢◌, ℕ, List, IfErr, IfOk, Ok};
 ghost use Rattle.graph_parts.specs.OfTree.{AreOfTree};
 ghost use Rattle.graph_parts.specs.PartFiles.{commits_in_all};
 ghost use Rattle.graph_parts.specs.Shown.{AreGraphParts, files_of};
 ghost use Rattle.graph_parts.specs.Spots.{LiesInFile};
 ghost use Rattle.graph_unchecked.specs.AtMostOne.{graph_parts_prop};
-ghost use Rattle.graph_unchecked.specs.PartSource.{IsWordOf, KnownParts, PartsTell, word_total};
+ghost use Rattle.graph_parts.specs.declared.parts.GraphParts.{GraphParts};
+ghost use Rattle.graph_unchecked.specs.PartSource.{IsWordOf, KnownParts, PartsTell, known_parts};
+ghost use Rattle.graph_unchecked.specs.PartSource.{word_total};
+ghost use Rattle.graph_unchecked.specs.Trusted.{IsTrustedAt};
 ghost use Rattle.graph_unchecked.specs.Unread.{failures_after_reads, failures_met};
 ghost use Rattle.graph_unchecked.specs.declared.unread.Unread.TheVariants.{Device};
 
@@ -22,14 +25,19 @@ use graph_folder::folder::Folder;
 use graph_parts::parts::GraphParts;
 use std::alloc::Global;
 
-/// The commits of files of which parts are read. Where it is known what stands in the folder, the
-/// parts that are kept are of its files. No call answers `Device`: that a read failed is kept, and
-/// `unless_failed` answers it. The parents of so many commits are read alone, and then no more.
+/// The commits of a trusted graph, of whose files parts are read. Where it is known what stands in
+/// the folder, the parts that are kept are of its files.
+///
+/// No call answers `Device`: that a read failed is kept, and nothing more is read then.
+/// [`TrustedCommits::unless_failed`] answers it. The parents of so many commits are read alone, and
+/// then no more.
 #[derive(Drop)]
-pub(crate) struct PartCommits<'a, T: Folder> {
+pub struct TrustedCommits<'a, T: Folder> {
     pub(crate) alloc: Global,
-    pub(crate) folder: &'a mut T,
-    pub(crate) parts: &'a mut GraphParts,
+    /// The folder in which the graph was opened.
+    pub folder: &'a mut T,
+    /// The parts that were read.
+    pub parts: &'a mut GraphParts,
     /// How many reads the folder had failed before.
     pub(crate) failures: u64,
     /// Whether one has failed since. Nothing more is read then.
@@ -41,34 +49,59 @@ pub(crate) struct PartCommits<'a, T: Folder> {
     ghost counted: { T.failure_count folder.now ≡ failures_met failed failures },
 }
 
-impl<'a, T: Folder> PartCommits<'a, T> {
+impl<'a, T: Folder> TrustedCommits<'a, T> {
+    /// The commits of the graph of which these are parts, in the folder in which it was opened.
+    pub fn new(alloc: Global, folder: &'a mut T, parts: &'a mut GraphParts) -> TrustedCommits<'a, T>
+        requires { (path : List ℕ) × IsTrustedAt (T.tree folder.old) path parts.old }
+        ensures known { ⟦<TrustedCommits<'a, T> as CommitSource>⟧.known result
+            ≡ known_parts (T.tree folder.old) parts.old (T.failure_count folder.old)
+            folder.entry.ghost_name parts.entry.ghost_name }
+        ensures parts { result.parts.now ≡ parts.old }
+    {
+        let failures = folder.failures();
+        TrustedCommits {
+            alloc,
+            folder,
+            parts,
+            failures,
+            failed: false,
+            left: u32::MAX,
+        }
+    }
+
     /// What a search over the commits answers, unless a read failed.
-    pub(crate) fn unless_failed<A: Drop>(&self, answer: Result<A, Unread>) -> Result<A, Unread>
+    ///
+    /// # Errors
+    ///
+    /// `Device` where a read of the files has failed since these commits were made, and else the
+    /// error of the answer.
+    pub fn unless_failed<A: Drop>(&self, answer: Result<A, Unread>) -> Result<A, Unread>
         requires { IfErr answer (λ error. error ≢ Device) }
         ensures answer { IfOk result (λ found. answer ≡ Ok found) }
         ensures failures { T.failure_count self.now.folder.now
-            ≡ failures_after_reads result self.now.failures }
+            ≡ failures_after_reads result
+            (⟦<TrustedCommits<'a, T> as CommitSource>⟧.known self.now).failures }
+
+        // More was read of the same files: the parts are those of the same graph.
+        ensures graph { (path : List ℕ) (before : GraphParts)
+            → files_of before ≡ files_of self.now.parts.now
+            → IsTrustedAt (T.tree self.now.folder.now) path before
+            → IsTrustedAt (T.tree self.now.folder.now) path self.now.parts.now }
     {
-        if self.failed {
-            Err(Unread::Device)
-        } else {
-            answer
+        if !self.failed {
+            return answer;
         }
+        Err(Unread::Device)
     }
 }
 
-impl<'a, T: Folder> CommitSource for PartCommits<'a, T> {
+impl<'a, T: Folder> CommitSource for TrustedCommits<'a, T> {
     type Error = Unread;
 
     ghost Known = { KnownParts };
 
-    ghost known = { λ s. record {
-      tree = T.tree s.folder.now;
-      files = files_of s.parts.now;
-      failures = s.failures;
-      folder = s.folder.ghost_name;
-      parts = s.parts.ghost_name;
-    } };
+    ghost known = { λ s. known_parts (T.tree s.folder.now) s.parts.now s.failures
+        s.folder.ghost_name s.parts.ghost_name };
 
     ghost says = { λ s t. PartsTell (T.tree s.folder.now) s.parts.now t };
 

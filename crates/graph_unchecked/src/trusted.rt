@@ -1,11 +1,13 @@
 //! Many questions about one graph, of whose files parts are read and kept.
 
-ghost use Rattle.std.specs.Prelude.{◌≡◌, ◌∷◌, ℕ, List, IfOk, Option};
+ghost use Rattle.std.specs.Prelude.{◌≡◌, ◌∷◌, ℕ, All, List, IfOk, Option};
+ghost use Rattle.std.specs.Borrow.{sem};
 ghost use Rattle.std.specs.Option.{ForSome};
 ghost use Rattle.gix_hash_core.specs.Oid.{oid_bytes};
 ghost use Rattle.gix_commitgraph.specs.Graph.{total};
 ghost use Rattle.graph_folder.specs.Tree.{Tree};
 ghost use Rattle.graph_parts.specs.OpenedParts.{PathPartsWereRead};
+ghost use Rattle.graph_unchecked.specs.Lending.{LendsParts};
 ghost use Rattle.graph_unchecked.specs.Trusted.{AreParentsFound, IsCommitFound, IsTrustedAt};
 ghost use Rattle.graph_unchecked.specs.Unchecked.{IsAnswerAt, IsComparedUnchecked, IsFoundAmong};
 ghost use Rattle.graph_unchecked.specs.Unchecked.{IsFoundBetween, IsToldUnchecked};
@@ -18,7 +20,7 @@ use crate::unread::Unread;
 use answers::{Answer, IdComparison};
 use commit_search::FewSearcher;
 use gix_commitgraph::Position;
-use gix_hash_core::{ObjectId, oid};
+use gix_hash_core::{Kind, ObjectId, oid};
 use graph_bases::FewComparer;
 use graph_folder::folder::Folder;
 use graph_parts::opening::open_parts;
@@ -96,6 +98,24 @@ impl TrustedGraph {
             result) }
     {
         self.parts.commits()
+    }
+
+    /// The kind of the ids.
+    pub fn kind(&self) -> Kind
+        requires { (known : Option Tree) × (path : List ℕ) × IsTrustedAt known path self.now }
+        ensures { (known : Option Tree) (path : List ℕ) → IsTrustedAt known path self.now
+            → ForSome known (λ tree. IsAnswerAt tree path
+            (λ layers kind. All (λ layer. layer.kind ≡ kind) layers) result) }
+    {
+        self.parts.kind()
+    }
+
+    /// The parts that were read, to be read on.
+    pub fn parts(&mut self) -> &mut GraphParts
+        ensures* lends { sem 𝓛 (LendsParts self.entry result) }
+        ensures parts { result.now ≡ self.old }
+    {
+        &mut self.parts
     }
 
     /// Whether the commit with the first id is an ancestor of the one with the second, or the same.

@@ -13,7 +13,7 @@ use Rattle.answers.specs.declared.answer.Answer.{Answer}
 use Rattle.answers.specs.declared.answer.Answer.TheVariants.{Known, Unknown}
 use Rattle.answers.proofs.FoundLemmas.{all_found, later_missing}
 use Rattle.newer_commits.specs.CommitsOnTop.{CommitsOnTop}
-use Rattle.newer_commits.specs.Finding.{Finds, HasId}
+use Rattle.newer_commits.specs.FindingOnTop.{Finds, HasId}
 use Rattle.newer_answers.specs.FoundOnTop.{AreAllPlaces, AreOthersPlaces}
 
 zip_push : {A B : Type 0} (R : A → B → Type 0) (xs : List A) (ys : List B) (x : A) (y : B) → AllZip R xs ys → R x y

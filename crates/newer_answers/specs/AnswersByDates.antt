@@ -11,7 +11,7 @@ use Rattle.graph_bases.specs.Comparison.{IsComparisonBy}
 use Rattle.graph_bases.specs.declared.bases.Comparison.{Comparison}
 use Rattle.answers.specs.declared.comparison.IdComparison.{IdComparison}
 use Rattle.newer_commits.specs.CommitsOnTop.{CommitsOnTop}
-use Rattle.newer_commits.specs.Finding.{HasId}
+use Rattle.newer_commits.specs.FindingOnTop.{HasId}
 use Rattle.newer_commits.specs.JoinedDates.{DatesOnTop, all_dates}
 use Rattle.newer_answers.specs.AnswersOnTop.{all_history}
 

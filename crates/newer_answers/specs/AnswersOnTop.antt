@@ -14,7 +14,7 @@ use Rattle.graph_bases.specs.Comparison.{IsComparisonIn}
 use Rattle.graph_bases.specs.declared.bases.Comparison.{Comparison}
 use Rattle.answers.specs.declared.comparison.IdComparison.{IdComparison}
 use Rattle.newer_commits.specs.CommitsOnTop.{CommitsOnTop, end_of_top, nodes_on_top}
-use Rattle.newer_commits.specs.Finding.{HasId}
+use Rattle.newer_commits.specs.FindingOnTop.{HasId}
 use Rattle.newer_commits.specs.JoinedHistory.{joined_history, joined_with}
 
 -- the history of all commits, where the base tells this

@@ -5,7 +5,7 @@ ghost use Rattle.std.specs.List.{AllZip};
 ghost use Rattle.commit_search.specs.Positions.{numbers_of};
 ghost use Rattle.commit_search.specs.Source.{Told};
 ghost use Rattle.newer_commits.specs.CommitsOnTop.{end_of_top};
-ghost use Rattle.newer_commits.specs.Finding.{HasId};
+ghost use Rattle.newer_commits.specs.FindingOnTop.{HasId};
 
 use gix_hash_core::ObjectId;
 use graph_format::Position;

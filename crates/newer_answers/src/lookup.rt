@@ -5,7 +5,7 @@ ghost use Rattle.gix_hash_core.specs.Oid.{oid_bytes};
 ghost use Rattle.commit_search.specs.Source.{Told};
 ghost use Rattle.answers.specs.FoundOf.{IsFoundOf, OfFirst, OfTwo};
 ghost use Rattle.newer_commits.specs.CommitsOnTop.{end_of_top};
-ghost use Rattle.newer_commits.specs.Finding.{Finds};
+ghost use Rattle.newer_commits.specs.FindingOnTop.{Finds};
 ghost use Rattle.newer_answers.specs.FoundOnTop.{AreAllBelow, AreAllPlaces, AreOthersBelow};
 ghost use Rattle.newer_answers.specs.FoundOnTop.{AreOthersPlaces, AreTwoBelow, AreTwoPlaces};
 

@@ -6,7 +6,7 @@ ghost use Rattle.gix_hash_core.specs.Oid.{oid_bytes};
 ghost use Rattle.commit_search.specs.Positions.{numbers_of};
 ghost use Rattle.answers.specs.FoundOf.{IsFoundOf, OfTwo};
 ghost use Rattle.newer_commits.specs.CommitsOnTop.{end_of_top};
-ghost use Rattle.newer_commits.specs.Finding.{Finds};
+ghost use Rattle.newer_commits.specs.FindingOnTop.{Finds};
 ghost use Rattle.newer_answers.specs.AnswersOnTop.{IsKeptOnTop, IsWalkOnTop, LeadsOnTop};
 ghost use Rattle.newer_answers.specs.AnswersOnTop.{NeverLeadsOnTop};
 

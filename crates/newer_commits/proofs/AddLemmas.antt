@@ -16,7 +16,7 @@ use Rattle.newer_commits.specs.JoinedHistory.{AreNumberedOnTop, joined_history}
 use Rattle.newer_commits.proofs.FoundLemmas.{found_there}
 use Rattle.newer_commits.proofs.HistoryLemmas.{numbered_pushed}
 use Rattle.newer_commits.specs.Adding.{AddsCommit, AreThere, IsNewCommit, IsAddRefusal}
-use Rattle.newer_commits.specs.Finding.{Finds}
+use Rattle.newer_commits.specs.FindingOnTop.{Finds}
 use Rattle.newer_commits.specs.FoundParents.{AreFoundParents, IsOneParentRefusal, IsParentRefusal, IsPrepared, IsPushed}
 use Rattle.newer_commits.specs.FoundParents.{IsPushRefusal}
 use Rattle.newer_commits.specs.Room.{IsFull}

@@ -17,7 +17,7 @@ use Rattle.graph_walks.proofs.WalkPathLemmas.{Path, between_from_path, path_from
 use Rattle.commit_objects.proofs.ParentLemmas.{says_one}
 use Rattle.graph_objects.specs.CommitWalks.{CommitsLead, IsCommitWalk, NamesParent}
 use Rattle.newer_commits.specs.CommitsOnTop.{CommitsOnTop, NewerCommit, before_newer, ids_on_top, nodes_on_top, StandsOnTop}
-use Rattle.newer_commits.specs.Finding.{Finds}
+use Rattle.newer_commits.specs.FindingOnTop.{Finds}
 use Rattle.newer_commits.specs.Adding.{IsCommitOf, AddsCommit}
 use Rattle.newer_commits.specs.CommitsOf.{AnswersOnce, AreCommitsOf, newer_id}
 use Rattle.newer_commits.specs.JoinedHistory.{joined_history}

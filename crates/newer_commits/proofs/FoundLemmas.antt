@@ -14,7 +14,7 @@ use Rattle.graph_walks.specs.History.{generation_at}
 use Rattle.graph_walks.proofs.GreatestLemmas.{greatest-cons}
 use Rattle.newer_commits.specs.CommitsOnTop.{CommitsOnTop, end_of_top, nodes_on_top}
 use Rattle.newer_commits.specs.Adding.{AreThere}
-use Rattle.newer_commits.specs.Finding.{Finds}
+use Rattle.newer_commits.specs.FindingOnTop.{Finds}
 use Rattle.newer_commits.specs.FoundParents.{AreFoundParents}
 use Rattle.newer_commits.specs.JoinedHistory.{joined_history}
 use Rattle.newer_commits.specs.declared.found.FoundParents.{FoundParents}

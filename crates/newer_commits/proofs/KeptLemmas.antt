@@ -21,8 +21,8 @@ use Rattle.graph_walks.specs.History.{Node, parents_at, generation_at}
 use Rattle.newer_commits.specs.CommitsOnTop.{newer_commit}
 use Rattle.newer_commits.specs.CommitsOnTop.{CommitsOnTop, NewerCommit, ids_on_top, nodes_on_top, AreAfterParents}
 use Rattle.newer_commits.specs.Room.{IsFull}
-use Rattle.newer_commits.specs.Stored.{fields_name, AreWhole, commit_of, stored_ids, IsWellKept, AreNumbersOf}
-use Rattle.newer_commits.specs.Stored.{AreWellKept, kept_value, IsKeptAt, AreFieldsOnTop}
+use Rattle.newer_commits.specs.KeptCommits.{fields_name, AreWhole, commit_of, stored_ids, IsWellKept, AreNumbersOf}
+use Rattle.newer_commits.specs.KeptCommits.{AreWellKept, kept_value, IsKeptAt, AreFieldsOnTop}
 use Rattle.newer_commits.specs.declared.commits.Stored.{Stored}
 use Rattle.newer_commits.proofs.ListedLemmas.{whole_kept, fields_kept}
 

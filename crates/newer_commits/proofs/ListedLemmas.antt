@@ -13,7 +13,7 @@ use Rattle.graph_format.specs.declared.parents.ExtraEdge.TheVariants as extra
 use Rattle.graph_format.specs.declared.parents.ParentEdge.{ParentEdge}
 use Rattle.graph_format.specs.declared.parents.ParentEdge.TheVariants as edge
 use Rattle.commit_search.specs.EdgeLists.{named_from}
-use Rattle.newer_commits.specs.Stored.{field_names, fields_name, IsWhole, AreWhole}
+use Rattle.newer_commits.specs.KeptCommits.{field_names, fields_name, IsWhole, AreWhole}
 
 pub internal_word : (q : ℕ) → q < 2147483648 → extra_edge_of q ≡ extra.Internal (position_of q)
 internal_word q small = cond-true _ _ _ (lt-ltb q 2147483648 small)

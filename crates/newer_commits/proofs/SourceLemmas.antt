@@ -20,7 +20,7 @@ use Rattle.commit_search.proofs.EdgeListLemmas.{named_last}
 use Rattle.newer_commits.specs.CommitsOnTop.{CommitsOnTop, nodes_on_top, AreWordsOf, AreAfterParents}
 use Rattle.newer_commits.specs.JoinedHistory.{joined_with, word_within, LiesInJoined, IsListedInJoined}
 use Rattle.newer_commits.specs.Room.{AreFewEnough}
-use Rattle.newer_commits.specs.Stored.{field_names, fields_name, IsWhole, AreFieldsOnTop}
+use Rattle.newer_commits.specs.KeptCommits.{field_names, fields_name, IsWhole, AreFieldsOnTop}
 use Rattle.newer_commits.proofs.ListedLemmas.{index_within, internal_word}
 use Rattle.newer_commits.proofs.HistoryLemmas.{joined_length, parent_joined, parent_below, parents_above}
 

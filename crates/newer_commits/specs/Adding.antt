@@ -5,7 +5,7 @@ use Rattle.gix_hash_core.specs.declared.kind.Kind.{Kind}
 use Rattle.commit_objects.specs.CommitContents.{Said, Says}
 use Rattle.commit_objects.specs.Object.{object_id_of}
 use Rattle.newer_commits.specs.CommitsOnTop.{CommitsOnTop, NewerCommit, end_of_top}
-use Rattle.newer_commits.specs.Finding.{Finds}
+use Rattle.newer_commits.specs.FindingOnTop.{Finds}
 use Rattle.newer_commits.specs.Room.{IsFull}
 use Rattle.newer_commits.specs.declared.error.AddError.{AddError}
 use Rattle.newer_commits.specs.declared.error.AddError.TheVariants as refusal

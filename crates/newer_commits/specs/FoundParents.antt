@@ -11,7 +11,7 @@ use Rattle.commit_objects.specs.Object.{object_id_of}
 use Rattle.commit_objects.specs.Time.{newer_time}
 use Rattle.commit_search.specs.Source.{Told}
 use Rattle.newer_commits.specs.CommitsOnTop.{CommitsOnTop, newer_commit, end_of_top, nodes_on_top}
-use Rattle.newer_commits.specs.Finding.{Finds}
+use Rattle.newer_commits.specs.FindingOnTop.{Finds}
 use Rattle.newer_commits.specs.JoinedHistory.{joined_history}
 use Rattle.newer_commits.specs.Adding.{AreThere, IsNewCommit}
 use Rattle.newer_commits.specs.Room.{IsFull}

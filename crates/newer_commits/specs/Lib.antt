@@ -1,10 +1,11 @@
 pub mod CommitsOnTop
 pub mod JoinedHistory
-pub mod Finding
+pub mod FindingOnTop
 pub mod Room
 pub mod Adding
 pub mod CommitsOf
 pub mod FoundParents
-pub mod Stored
+pub mod KeptCommits
 pub mod SameKnowledge
+pub mod SameLent
 pub mod JoinedDates

@@ -5,7 +5,7 @@ ghost use Rattle.std.specs.Prelude.{None, OnErr, OnOk, IsSomeAnd};
 ghost use Rattle.std.specs.Prelude.{length};
 ghost use Rattle.commit_search.specs.Source.{Told};
 ghost use Rattle.newer_commits.specs.Adding.{AddsCommit, IsAddRefusal};
-ghost use Rattle.newer_commits.specs.Finding.{Finds};
+ghost use Rattle.newer_commits.specs.FindingOnTop.{Finds};
 ghost use Rattle.newer_commits.specs.CommitsOnTop.{newer_commit};
 ghost use Rattle.newer_commits.specs.FoundParents.{AreFoundParents, IsOneParentRefusal};
 ghost use Rattle.newer_commits.specs.FoundParents.{IsParentRefusal, IsPrepared, IsPushRefusal};

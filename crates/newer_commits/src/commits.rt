@@ -14,7 +14,7 @@ ghost use Rattle.newer_commits.specs.CommitsOnTop.{AreAfterParents, NewerCommit,
 ghost use Rattle.newer_commits.specs.CommitsOnTop.{end_of_top, ids_on_top, nodes_on_top};
 ghost use Rattle.newer_commits.specs.CommitsOnTop.{newer_commit};
 ghost use Rattle.newer_commits.specs.Room.{AreFewEnough, IsFull};
-ghost use Rattle.newer_commits.specs.Stored.{AreFieldsOnTop, IsKeptAt};
+ghost use Rattle.newer_commits.specs.KeptCommits.{AreFieldsOnTop, IsKeptAt};
 
 use crate::parents::store_parents;
 use gix_hash_core::{ObjectId, oid};
@@ -49,7 +49,7 @@ impl Model for NewerCommits {
 
     ghost Value = { CommitsOnTop };
 
-    ghost use Rattle.newer_commits.specs.Stored.{AreWellKept, kept_value};
+    ghost use Rattle.newer_commits.specs.KeptCommits.{AreWellKept, kept_value};
 
     ghost view = { λ a. kept_value a.below a.commits.items a.words.items };
 

@@ -17,6 +17,7 @@ mod found;
 mod graph;
 mod joined;
 pub mod law;
+mod lent;
 mod newer;
 mod parents;
 
@@ -26,4 +27,5 @@ pub use commits::NewerCommits;
 pub use dated::DatedCommits;
 pub use dates::JoinedDates;
 pub use error::AddError;
+pub use lent::Lent;
 pub use newer::Newer;

@@ -6,7 +6,7 @@ ghost use Rattle.graph_walks.specs.History.{generation_at};
 ghost use Rattle.gix_commitgraph.specs.GraphLookup.{position_number};
 ghost use Rattle.commit_search.specs.Source.{Told};
 ghost use Rattle.newer_commits.specs.CommitsOnTop.{end_of_top, nodes_on_top};
-ghost use Rattle.newer_commits.specs.Finding.{Finds, HasId};
+ghost use Rattle.newer_commits.specs.FindingOnTop.{Finds, HasId};
 ghost use Rattle.newer_commits.specs.JoinedHistory.{AreNumberedOnTop, joined_history};
 
 use crate::base::Base;

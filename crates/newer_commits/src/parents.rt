@@ -4,7 +4,7 @@
 ghost use Rattle.std.specs.Prelude.{◌≡◌, ◌+◌, ◌<◌, ◌≤◌, ◌^◌, ◌++◌, ◌∷◌, [], All, IfOk, List, ℕ};
 ghost use Rattle.std.specs.Prelude.{OnErr};
 ghost use Rattle.std.specs.Prelude.{OnOk, length};
-ghost use Rattle.newer_commits.specs.Stored.{AreWhole, fields_name};
+ghost use Rattle.newer_commits.specs.KeptCommits.{AreWhole, fields_name};
 
 use graph_format::Position;
 use graph_format::parents::{ParentEdge, TOP_BIT};

@@ -2,7 +2,7 @@
 use Rattle.std.proofs.Common.{◌≡◌, ◌∷◌, ◌++◌, [], get_or, rules, ◌∙◌}
 use Rattle.std.proofs.lemmas.Option.{slice_get-get_or}
 use Rattle.graph_format.specs.declared.Position.{Position}
-use Rattle.newer_commits.specs.Finding.{HasId}
+use Rattle.newer_commits.specs.FindingOnTop.{HasId}
 use Rattle.newer_answers.proofs.PlaceOnTopLemmas.{has_as, id_more}
 use Rattle.newer_answers.proofs.ids.ids_of.Goals as goal
 

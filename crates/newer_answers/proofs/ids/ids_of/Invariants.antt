@@ -3,7 +3,7 @@ use Rattle.std.proofs.Common.{◌≡◌, take}
 use Rattle.std.specs.List.{AllZip}
 use Rattle.commit_search.specs.Positions.{numbers_of}
 use Rattle.commit_search.specs.Source.{Told}
-use Rattle.newer_commits.specs.Finding.{HasId}
+use Rattle.newer_commits.specs.FindingOnTop.{HasId}
 use Rattle.newer_answers.proofs.ids.ids_of.Given as goal
 
 abbrev pub invariant-loop-pos : goal.invariant-loop-pos

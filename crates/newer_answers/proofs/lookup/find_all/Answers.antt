@@ -2,7 +2,7 @@ use Rattle.gix_hash_core.specs.Oid.{oid_bytes}
 use Rattle.answers.specs.FoundOf.{OfFirst}
 use Rattle.answers.specs.declared.answer.Answer.TheVariants.{Known, Unknown}
 use Rattle.answers.proofs.FoundLemmas.{first_missing}
-use Rattle.newer_commits.specs.Finding.{Finds}
+use Rattle.newer_commits.specs.FindingOnTop.{Finds}
 use Rattle.newer_answers.specs.FoundOnTop.{AreAllPlaces}
 use Rattle.newer_answers.proofs.PlaceOnTopLemmas.{others_found, others_missing, others_as}
 use Rattle.newer_answers.proofs.lookup.find_all.Goals as goal

@@ -2,7 +2,7 @@ use Rattle.std.proofs.Common.{[], ◌∷◌, None, Some, refl}
 use Rattle.gix_hash_core.specs.Oid.{oid_bytes}
 use Rattle.answers.specs.FoundOf.{OfTwo}
 use Rattle.answers.proofs.FoundLemmas.{first_missing, second_missing}
-use Rattle.newer_commits.specs.Finding.{Finds}
+use Rattle.newer_commits.specs.FindingOnTop.{Finds}
 use Rattle.newer_answers.specs.FoundOnTop.{AreTwoPlaces}
 use Rattle.newer_answers.proofs.PlaceOnTopLemmas.{finds_as}
 use Rattle.newer_answers.proofs.lookup.find_both.Goals as goal

@@ -4,7 +4,7 @@ use Rattle.std.proofs.lemmas.List.Elements.{All-push}
 use Rattle.std.proofs.lemmas.Option.{slice_get_read}
 use Rattle.graph_format.specs.declared.Position.{Position}
 use Rattle.newer_commits.specs.CommitsOnTop.{CommitsOnTop, end_of_top}
-use Rattle.newer_commits.specs.Finding.{Finds}
+use Rattle.newer_commits.specs.FindingOnTop.{Finds}
 use Rattle.newer_answers.proofs.PlaceOnTopLemmas.{finds_as, found_next, missing_next}
 use Rattle.newer_answers.proofs.lookup.find_others.Goals as goal
 

@@ -6,7 +6,7 @@ use Rattle.commit_search.specs.Positions.{numbers_of}
 use Rattle.commit_search.specs.Source.{Told}
 use Rattle.answers.specs.FoundOf.{FindsAt}
 use Rattle.newer_commits.specs.CommitsOnTop.{end_of_top}
-use Rattle.newer_commits.specs.Finding.{Finds}
+use Rattle.newer_commits.specs.FindingOnTop.{Finds}
 use Rattle.newer_answers.proofs.lookup.find_others.Given as goal
 
 abbrev pub invariant-loop-place : goal.invariant-loop-place

@@ -5,7 +5,7 @@ use Rattle.std.specs.BTreeMap as tree
 use Rattle.std.proofs.lemmas.List.{length-map}
 use Rattle.gix_hash_core.specs.Oid.{oid_bytes}
 use Rattle.newer_commits.specs.CommitsOnTop.{CommitsOnTop, ids_on_top, end_of_top}
-use Rattle.newer_commits.specs.Stored.{commit_of}
+use Rattle.newer_commits.specs.KeptCommits.{commit_of}
 use Rattle.newer_commits.proofs.KeptLemmas.{not_there, there_at}
 use Rattle.newer_commits.proofs.commits.NewerCommits.position_of.Goals as goal
 

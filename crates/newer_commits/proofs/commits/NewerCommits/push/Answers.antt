@@ -3,7 +3,7 @@ use Rattle.std.proofs.Common.{sym, take}
 use Rattle.std.proofs.lemmas.List.{length-append, length-map, take_at}
 use Rattle.std.proofs.lemmas.List.Elements.{All-contains}
 use Rattle.newer_commits.specs.CommitsOnTop.{CommitsOnTop, newer_commit}
-use Rattle.newer_commits.specs.Stored.{AreWellKept, AreWhole, commit_of, fields_name}
+use Rattle.newer_commits.specs.KeptCommits.{AreWellKept, AreWhole, commit_of, fields_name}
 use Rattle.newer_commits.specs.declared.commits.Stored.{Stored}
 use Rattle.newer_commits.proofs.KeptLemmas.{commits_pushed, kept_pushed, kept_same, room_left}
 use Rattle.newer_commits.proofs.commits.NewerCommits.push.Goals as goal

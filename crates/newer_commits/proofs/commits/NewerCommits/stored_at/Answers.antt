@@ -2,7 +2,7 @@ use Rattle.std.proofs.Common.{◌≡◌, ◌-◌, ◌<◌, Some, ap, arith, leng
 use Rattle.std.proofs.lemmas.List.{length-map}
 use Rattle.std.proofs.lemmas.Option.{slice_get_read}
 use Rattle.newer_commits.specs.CommitsOnTop.{CommitsOnTop}
-use Rattle.newer_commits.specs.Stored.{IsKeptAt, commit_of}
+use Rattle.newer_commits.specs.KeptCommits.{IsKeptAt, commit_of}
 use Rattle.newer_commits.proofs.KeptLemmas.{kept_at}
 use Rattle.newer_commits.proofs.commits.NewerCommits.stored_at.Goals as goal
 

@@ -1,7 +1,7 @@
 use Rattle.std.proofs.Common.{◌-◌, ◌∙◌, ℕ, length, ap, arith, subst}
 use Rattle.std.proofs.lemmas.Result.{IfOk-weaker}
 use Rattle.newer_commits.specs.Room.{AreFewEnough}
-use Rattle.newer_commits.specs.Stored.{AreFieldsOnTop}
+use Rattle.newer_commits.specs.KeptCommits.{AreFieldsOnTop}
 use Rattle.newer_commits.specs.CommitsOnTop.{nodes_on_top}
 use Rattle.graph_walks.specs.History.{parents_at}
 use Rattle.newer_commits.proofs.SourceLemmas.{base_fields_told, newer_fields_read}

@@ -1,7 +1,7 @@
 use Rattle.std.proofs.Common.{None, subst, sym}
 use Rattle.std.proofs.lemmas.Result.{IfErr-weaker, IfOk-weaker}
 use Rattle.newer_commits.specs.CommitsOnTop.{CommitsOnTop}
-use Rattle.newer_commits.specs.Finding.{Finds}
+use Rattle.newer_commits.specs.FindingOnTop.{Finds}
 use Rattle.newer_commits.specs.FoundParents.{AreFoundParents, IsPushRefusal, IsPushed}
 use Rattle.newer_commits.proofs.AddLemmas.{prepared_absent, prepared_adds, prepared_refused}
 use Rattle.newer_commits.proofs.newer.Newer.add.Goals as goal

@@ -2,7 +2,7 @@ use Rattle.std.proofs.Common.{◌≡◌, ◌∙◌, ℕ, List, None, ap, arith, 
 use Rattle.commit_objects.specs.Object.{object_id_of}
 use Rattle.newer_commits.specs.Adding.{IsNewCommit}
 use Rattle.newer_commits.specs.CommitsOnTop.{CommitsOnTop}
-use Rattle.newer_commits.specs.Finding.{Finds}
+use Rattle.newer_commits.specs.FindingOnTop.{Finds}
 use Rattle.newer_commits.specs.FoundParents.{AreFoundParents, IsParentRefusal}
 use Rattle.newer_commits.proofs.AddLemmas.{parent_refused}
 use Rattle.newer_commits.proofs.FoundLemmas.{few_parents}

@@ -1,7 +1,7 @@
 use Rattle.std.proofs.Common.{rules, ◌≡◌, ◌+◌, ℕ, List, Some, max, refl, subst}
 use Rattle.graph_walks.specs.History.{generation_at}
 use Rattle.newer_commits.specs.CommitsOnTop.{CommitsOnTop, nodes_on_top}
-use Rattle.newer_commits.specs.Finding.{Finds}
+use Rattle.newer_commits.specs.FindingOnTop.{Finds}
 use Rattle.newer_commits.specs.JoinedHistory.{joined_history}
 use Rattle.newer_commits.proofs.FoundLemmas.{found_more}
 use Rattle.newer_commits.proofs.newer.Newer.with_parent.Goals as goal
