@@ -1,5 +1,5 @@
 -- The lookup of an id in a right graph, or where there is none, is a scan; and what the base says is what its layers tell.
-use Rattle.std.proofs.Common.{◌≡◌, ◌∙◌, ◌<◌, ℕ, List, [], Option, Some, None, ap, arith, length, refl, slice_get, subst, sym}
+use Rattle.std.proofs.Common.{◌≡◌, ◌∙◌, ℕ, List, [], Option, Some, None, ap, arith, refl, slice_get, subst, sym}
 use Rattle.std.specs.Prelude.{IfSome}
 use Rattle.std.specs.Option.{MatchOption, option_map, option_map_or}
 use Rattle.graph_walks.specs.Walks.{CountWalks}
@@ -13,7 +13,7 @@ use Rattle.gix_commitgraph.proofs.sound.SoundLemmas.{sound-scanned}
 use Rattle.commit_search.specs.Source.{Told, told_of}
 use Rattle.history_commands.specs.CheckedReplies.{Scans}
 use Rattle.newer_commits.specs.declared.base_or_none.BaseOrNone.{BaseOrNone}
-use Rattle.newer_commands.specs.AskedOnTop.{layers_of_base}
+use Rattle.newer_commands.specs.KindOver.{layers_of_base}
 
 scan_none : (id : List ℕ) → scan [] id ≡ None
 unfolding scan
@@ -82,7 +82,8 @@ total_option None = refl
 total_option (Some layers) = refl
 
 -- its commits are those of the layers
-pub total_base : (base : BaseOrNone (List Layer)) → option_map_or total (layers_known base.base) 0 ≡ total (layers_of_base base)
+pub total_base : (base : BaseOrNone (List Layer))
+    → option_map_or total (layers_known base.base) 0 ≡ total (layers_of_base base)
 total_base base = total_option base.base
 
 ids_option : (base : Option (List Layer)) (p : ℕ) (id : List ℕ) → HasIdBelow base p id

@@ -1,92 +1,80 @@
--- What is found once all that is lacking was asked for.
-use Rattle.std.proofs.Common.{◌≡◌, ℕ, List, [], ◌++◌, Option, Vec, inl, map, subst, sym}
+-- What is answered over a base that tells what a right graph tells, or none, may be told of it.
+use Rattle.std.proofs.Common.{◌≡◌, ◌≢◌, ℕ, List, [], Option, Some, Vec, inl, subst}
 use Rattle.std.specs.Global.{Global}
-use Rattle.std.specs.Io.KnownBytes.{Consumes, prepend_known}
-use Rattle.std.specs.Prelude.{Result, Ok, Err, IfErr, IfOk}
+use Rattle.std.specs.Prelude.{Result, Ok, Err, slice_get}
 use Rattle.gix_hash_core.specs.declared.kind.Kind.{Kind}
+use Rattle.graph_walks.specs.Walks.{CountWalks}
 use Rattle.graph_format.specs.Layer.{Layer}
-use Rattle.commit_objects.specs.Object.{object_id_of}
+use Rattle.graph_format.specs.StoredHistory.{history_of}
+use Rattle.gix_commitgraph.specs.Graph.{graph_ids, total}
+use Rattle.commit_search.specs.Source.{Told, told_of}
 use Rattle.answer_lines.specs.Replies.{listed_reply}
 use Rattle.answer_lines.specs.declared.reply.Reply.{Reply}
 use Rattle.graph_commands.specs.declared.refusal.Refusal.TheVariants.{Walk}
 use Rattle.history_commands.specs.CheckedReplies.{Scans}
 use Rattle.question_lines.specs.Questions.{question_ids}
 use Rattle.question_lines.specs.declared.question.Question.{Question}
-use Rattle.newer_commits.specs.Adding.{AreThere}
-use Rattle.newer_commits.specs.CommitsOnTop.{CommitsOnTop}
-use Rattle.commit_requests.specs.Completion.{AddsInTurn, HaveIdsAmong, IsCompleteRefusal}
-use Rattle.commit_requests.specs.Requested.{AreAskedFor, commit_entries}
 use Rattle.commit_requests.specs.declared.error.CompleteError.{CompleteError}
-use Rattle.newer_commands.specs.AskedOnTop.{AreAllOnTop, AreAskedOnTop}
-use Rattle.newer_commands.specs.AskedReply.{Verdict, listed_verdict}
-use Rattle.newer_commands.specs.RepliesOnTop.{IsReplyOver, IsVerdictOf, MayFindOver, MayTellAtLast}
-use Rattle.newer_commands.specs.declared.refusal.NewerRefusal.{NewerRefusal}
+use Rattle.commit_requests.specs.declared.error.CompleteError.TheVariants as completion
+use Rattle.newer_questions.specs.QuestionsOnTop.{MayAnswerOnTop}
+use Rattle.newer_questions.proofs.OnBaseLemmas.{all_as, on_top_as}
+use Rattle.newer_commands.specs.AskedReply.{IsVerdictOf, Verdict}
+use Rattle.newer_commands.specs.KindOver.{IsKindOver}
+use Rattle.newer_commands.specs.RepliesOnTop.{MayTellAtLast, MayTellOver}
 use Rattle.newer_commands.specs.declared.refusal.NewerRefusal.TheVariants.{Common}
-use Rattle.newer_commands.proofs.OnBaseLemmas.{asked_as, there_as, turns_as}
-use Rattle.newer_commands.proofs.TellLemmas.{stands_in_front, tells_error, unread_known}
+use Rattle.newer_commands.proofs.SearchOverLemmas.{reply_over}
+use Rattle.newer_commands.proofs.TellLemmas.{never_lost, tells_error}
 
-module _ (kind : Kind) (layers : List Layer) (base : List ℕ → Option ℕ → Type 0)
-    (scans : (id : List ℕ) (answer : Option ℕ) → base id answer → Scans layers id answer) (none top : CommitsOnTop)
-    (asked : Question) (ids requests : List (List ℕ)) (same : ids ≡ question_ids asked) where
-  -- what was asked for and added
-  pub on_top_of : (read : List (List ℕ)) × AreAskedFor kind base none ids requests read
-      → (contents : List (List ℕ)) × AddsInTurn kind base none contents top × HaveIdsAmong kind requests contents
-      → AreAskedOnTop kind layers none (question_ids asked) requests top
-  on_top_of for added = record {
-    read = for.0;
-    asked_for = subst (λ (those : List (List ℕ)). AreAskedFor kind (Scans layers) none those requests for.0) same
-        (asked_as base (Scans layers) scans kind none ids requests for.0 for.1);
-    contents = added.0;
-    added = turns_as base (Scans layers) scans kind none added.0 top added.1;
-    among = added.2;
+-- The base, as in `SearchOverLemmas`, and the question with what was asked for.
+module _ {E : Type 0} (layers : List Layer) (base : List ℕ → Option ℕ → Type 0) (has_id : ℕ → List ℕ → Type 0)
+    (says : Told → Type 0) (scans : (id : List ℕ) (answer : Option ℕ) → base id answer → Scans layers id answer)
+    (own : (p : ℕ) (id : List ℕ) → has_id p id → slice_get (graph_ids layers) p ≡ Some id)
+    (said : says (told_of layers)) (counts : CountWalks (history_of layers)) (may_fail : E → Type 0) (count : ℕ)
+    (counted : count ≡ total layers) (kind : Kind) (known : Option (List ℕ)) (question : Question)
+    (is_kind : IsKindOver layers (question_ids question) kind) (asked : List (List ℕ)) where
+  -- that of all that may be answered this is told
+  over : (answer : Result (Reply (Vec (List ℕ) Global)) (CompleteError E)) (verdict : Verdict)
+      → (may : MayAnswerOnTop kind count says base has_id may_fail known question asked answer)
+      → MayTellAtLast kind layers may.none may.top question asked known verdict
+      → MayTellOver layers known question (record { asked = asked; verdict = verdict })
+  over answer verdict may at_last = record {
+    kind = kind;
+    is_kind = is_kind;
+    none = may.none;
+    nothing = subst (λ (n : ℕ). (may.none.commits ≡ []) × (may.none.below ≡ n)) counted may.nothing;
+    top = may.top;
+    on_top = on_top_as base (Scans layers) scans kind may.none (question_ids question) asked may.top may.on_top;
+    at_last = at_last;
   }
 
-  -- nothing is lacking
-  pub all_on_top : (ahead : List ℕ) (known after : Option (List ℕ)) → AreThere base top ids → AreThere base top requests
-      → ((read : List (List ℕ)) × (requests ≡ map (object_id_of kind) read)
-      × Consumes (prepend_known ahead known) after (commit_entries kind read)) → ahead ≡ []
-      → AreAllOnTop kind layers (question_ids asked) requests known top
-  all_on_top ahead known after there each read unread = record {
-    question = subst (AreThere (Scans layers) top) same (there_as base (Scans layers) scans top ids there);
-    each = there_as base (Scans layers) scans top requests each;
-    read = read.0;
-    own = read.1;
-    entries = stands_in_front known after (commit_entries kind read.0)
-        (subst (λ (start : Option (List ℕ)). Consumes start after (commit_entries kind read.0)) (unread_known ahead known unread)
-        read.2);
-  }
+  -- an answer
+  pub reply_tells : (reply : Reply (Vec (List ℕ) Global))
+      → MayAnswerOnTop kind count says base has_id may_fail known question asked (Ok reply)
+      → MayTellOver layers known question (record { asked = asked; verdict = Ok (listed_reply reply) })
+  reply_tells reply may =
+      over (Ok reply) (Ok (listed_reply reply)) may
+      (inl (
+        all_as base (Scans layers) scans kind (question_ids question) asked known may.top may.at_last.0,
+        reply_over layers base has_id says may.top scans own said counts question reply may.at_last.1,
+      ))
 
-  -- an error is told as its refusal
-  pub error_found : {E F : Type 0} (may_fail : E → Type 0) (ahead : List ℕ) (known : Option (List ℕ)) (error : CompleteError E)
-      (result : Result (Result (Reply (Vec (List ℕ) Global)) NewerRefusal) F)
-      → AreAskedOnTop kind layers none (question_ids asked) requests top
-      → IsCompleteRefusal kind base may_fail none top ids requests (prepend_known ahead known) error → ahead ≡ []
-      → IfOk result (λ verdict. IsVerdictOf error (listed_verdict verdict))
-      → IfOk result (λ verdict. MayFindOver kind layers none asked requests known (listed_verdict verdict))
-  error_found may_fail ahead known error (Err failed) on_top why unread told = tt
-  error_found may_fail ahead known error (Ok verdict) on_top why unread told = (
-    top,
-    on_top,
-    tells_error kind layers base may_fail none top asked requests known error (listed_verdict verdict) told
-        (subst
-        (λ (start : Option (List ℕ)). IsCompleteRefusal kind base may_fail none top (question_ids asked) requests start error)
-        (unread_known ahead known unread)
-        (subst
-        (λ (those : List (List ℕ)). IsCompleteRefusal kind base may_fail none top those requests (prepend_known ahead known)
-        error)
-        same why)),
-  )
+  -- an error with a verdict
+  pub error_tells : (error : CompleteError E) (verdict : Verdict)
+      → MayAnswerOnTop kind count says base has_id may_fail known question asked (Err error)
+      → IsVerdictOf error (Ok verdict)
+      → MayTellOver layers known question (record { asked = asked; verdict = verdict })
+  error_tells error verdict may told =
+      over (Err error) verdict may
+      (tells_error kind layers base may_fail may.none may.top question asked known error verdict told may.at_last)
 
--- what a search finds is told
-pub search_found : (kind : Kind) (layers : List Layer) (none top : CommitsOnTop) (asked : Question) (requests : List (List ℕ))
-    (known : Option (List ℕ)) (result : Result (Reply (Vec (List ℕ) Global)) NewerRefusal)
-    → AreAskedOnTop kind layers none (question_ids asked) requests top
-    → AreAllOnTop kind layers (question_ids asked) requests known top
-    → IfOk result (λ reply. IsReplyOver layers top asked (listed_reply reply)) → IfErr result (λ refusal. refusal ≡ Common Walk)
-    → MayFindOver kind layers none asked requests known (listed_verdict result)
-search_found kind layers none top asked requests known (Ok reply) on_top all found refused = (top, on_top, inl (all, found))
-search_found kind layers none top asked requests known (Err refusal) on_top all found refused = (
-  top,
-  on_top,
-  subst (λ (one : NewerRefusal). MayTellAtLast kind layers none top asked requests known (Err one)) (sym refused) tt,
-)
+  -- memory may run out at any time
+  pub memory_tells : (error : CompleteError E)
+      → MayAnswerOnTop kind count says base has_id may_fail known question asked (Err error)
+      → MayTellOver layers known question (record { asked = asked; verdict = Err (Common Walk) })
+  memory_tells error may = over (Err error) (Err (Common Walk)) may tt
+
+  -- no commit is lost
+  pub lost_never : (error : CompleteError E) (id : List ℕ)
+      → MayAnswerOnTop kind count says base has_id may_fail known question asked (Err error) → error ≢ completion.Lost id
+  lost_never error id may =
+      never_lost kind layers base may_fail may.none may.top (question_ids question) asked known error id scans may.at_last

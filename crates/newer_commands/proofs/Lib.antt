@@ -1,5 +1,4 @@
 pub mod BaseScanLemmas
-pub mod OnBaseLemmas
 pub mod TellLemmas
 pub mod FindLemmas
 pub mod AskLemmas

@@ -1,5 +1,5 @@
 -- What a search finds over a base in memory and newer commits is so of the history of all of them.
-use Rattle.std.proofs.Common.{◌≡◌, ℕ, List, [], ◌∷◌, Bool, Option, Some, None, Vec, inl, inr, subst, sym}
+use Rattle.std.proofs.Common.{◌≡◌, ℕ, List, [], ◌∷◌, Bool, Option, Some, None, Vec, inl, inr}
 use Rattle.std.specs.Prelude.{slice_get}
 use Rattle.std.specs.Global.{Global}
 use Rattle.std.specs.List.{AllZip}
@@ -13,15 +13,18 @@ use Rattle.answers.specs.FoundOf.{IsFoundOf, OfFirst, OfTwo, known_map, listed_c
 use Rattle.answers.specs.declared.answer.Answer.{Answer}
 use Rattle.answers.specs.declared.comparison.IdComparison.{IdComparison}
 use Rattle.answers.proofs.FoundLemmas.{all_so, found_as, found_same, two_so}
+use Rattle.answer_lines.specs.Replies.{listed_reply}
+use Rattle.answer_lines.specs.declared.reply.Reply.{Reply}
 use Rattle.answer_lines.specs.declared.reply.Reply.TheVariants as reply
 use Rattle.history_commands.specs.CheckedReplies.{Scans}
 use Rattle.question_lines.specs.declared.question.Question.{Question}
 use Rattle.question_lines.specs.declared.question.Question.TheVariants as question
 use Rattle.newer_commits.specs.CommitsOnTop.{CommitsOnTop}
-use Rattle.newer_commits.specs.Finding.{Finds, HasId}
+use Rattle.newer_commits.specs.FindingOnTop.{Finds, HasId}
 use Rattle.newer_answers.specs.AnswersOnTop.{IsComparedOnTop, IsToldOnTop, IsWalkOnTop}
+use Rattle.newer_questions.specs.QuestionsOnTop.{IsReplyOnTop}
+use Rattle.newer_questions.proofs.OnBaseLemmas.{finds_as}
 use Rattle.newer_commands.specs.RepliesOnTop.{AreBasesOver, HasIdOver, IsReplyOver, IsToldOver, IsWalkOver}
-use Rattle.newer_commands.proofs.OnBaseLemmas.{finds_as}
 
 -- The layers of the base, its lookup and its ids as a contract knows them, and what it says.
 module _ (layers : List Layer) (base : List ℕ → Option ℕ → Type 0) (has_id : ℕ → List ℕ → Type 0) (says : Told → Type 0)
@@ -57,7 +60,7 @@ module _ (layers : List Layer) (base : List ℕ → Option ℕ → Type 0) (has_
   same_found : (id : List ℕ) (answer : Option ℕ) → Finds base top id answer → Finds (Scans layers) top id answer
   same_found id answer found = finds_as base (Scans layers) scans top id answer found
 
-  pub told_found : (ids : List (List ℕ)) (answer : Answer Bool)
+  told_found : (ids : List (List ℕ)) (answer : Answer Bool)
       → IsFoundOf (Finds base top) (OfTwo (IsToldOnTop says top)) ids answer
       → IsFoundOf (Finds (Scans layers) top) (OfTwo (IsToldOver layers top)) ids answer
   told_found ids answer found =
@@ -66,7 +69,7 @@ module _ (layers : List Layer) (base : List ℕ → Option ℕ → Type 0) (has_
       (λ positions known so. two_so (λ told. told) (IsToldOnTop says top) (IsToldOver layers top) told_over positions known so)
       found
 
-  pub walk_found : (ids : List (List ℕ)) (answer : Answer (Option (Vec (List ℕ) Global)))
+  walk_found : (ids : List (List ℕ)) (answer : Answer (Option (Vec (List ℕ) Global)))
       → IsFoundOf (Finds base top) (OfTwo (IsWalkOnTop says has_id top)) ids answer
       → IsFoundOf (Finds (Scans layers) top) (OfTwo (IsWalkOver layers top)) ids (known_map listed_walk answer)
   walk_found ids answer found =
@@ -76,7 +79,7 @@ module _ (layers : List Layer) (base : List ℕ → Option ℕ → Type 0) (has_
       two_so listed_walk (IsWalkOnTop says has_id top) (IsWalkOver layers top) walk_over positions known so)
       found
 
-  pub bases_found : (ids : List (List ℕ)) (answer : Answer (IdComparison (Vec (List ℕ) Global)))
+  bases_found : (ids : List (List ℕ)) (answer : Answer (IdComparison (Vec (List ℕ) Global)))
       → IsFoundOf (Finds base top) (OfFirst (IsComparedOnTop says has_id top)) ids answer
       → IsFoundOf (Finds (Scans layers) top) (OfFirst (AreBasesOver layers top)) ids (known_map listed_comparison answer)
   bases_found ids answer found =
@@ -86,30 +89,11 @@ module _ (layers : List Layer) (base : List ℕ → Option ℕ → Type 0) (has_
       all_so listed_comparison (IsComparedOnTop says has_id top) (AreBasesOver layers top) bases_over positions known so)
       found
 
--- What is found is the reply to the question.
-module _ (layers : List Layer) (top : CommitsOnTop) (asked : Question) where
-  pub told_reply : (first second : List ℕ) (ids : List (List ℕ)) (answer : Answer Bool) → asked ≡ question.IsAncestor first second
-      → ids ≡ first ∷ second ∷ [] → IsFoundOf (Finds (Scans layers) top) (OfTwo (IsToldOver layers top)) ids answer
-      → IsReplyOver layers top asked (reply.Told answer)
-  told_reply first second ids answer is same found =
-      subst (λ (q : Question). IsReplyOver layers top q (reply.Told answer)) (sym is)
-      (subst (λ (those : List (List ℕ)). IsFoundOf (Finds (Scans layers) top) (OfTwo (IsToldOver layers top)) those answer) same
-      found)
-
-  pub walk_reply : (first second : List ℕ) (ids : List (List ℕ)) (answer : Answer (Option (List (List ℕ))))
-      → asked ≡ question.Walk first second → ids ≡ first ∷ second ∷ []
-      → IsFoundOf (Finds (Scans layers) top) (OfTwo (IsWalkOver layers top)) ids answer
-      → IsReplyOver layers top asked (reply.Walk answer)
-  walk_reply first second ids answer is same found =
-      subst (λ (q : Question). IsReplyOver layers top q (reply.Walk answer)) (sym is)
-      (subst (λ (those : List (List ℕ)). IsFoundOf (Finds (Scans layers) top) (OfTwo (IsWalkOver layers top)) those answer) same
-      found)
-
-  pub bases_reply : (first : List ℕ) (others : Vec (List ℕ) Global) (ids : List (List ℕ))
-      (answer : Answer (IdComparison (List (List ℕ)))) → asked ≡ question.MergeBase first others → ids ≡ first ∷ others.items
-      → IsFoundOf (Finds (Scans layers) top) (OfFirst (AreBasesOver layers top)) ids answer
-      → IsReplyOver layers top asked (reply.Compared answer)
-  bases_reply first others ids answer is same found =
-      subst (λ (q : Question). IsReplyOver layers top q (reply.Compared answer)) (sym is)
-      (subst (λ (those : List (List ℕ)). IsFoundOf (Finds (Scans layers) top) (OfFirst (AreBasesOver layers top)) those answer)
-      same found)
+  -- what is answered to a question is so of the history
+  pub reply_over : (asked : Question) (answer : Reply (Vec (List ℕ) Global)) → IsReplyOnTop says base has_id top asked answer
+      → IsReplyOver layers top asked (listed_reply answer)
+  reply_over (question.IsAncestor first second) (reply.Told told) found = told_found (first ∷ second ∷ []) told found
+  reply_over (question.Walk first second) (reply.Walk walk) found = walk_found (first ∷ second ∷ []) walk found
+  reply_over (question.MergeBase first others) (reply.Compared compared) found =
+      bases_found (first ∷ others.items) compared found
+  reply_over asked answer found = absurd found

@@ -1,5 +1,5 @@
 pub mod NewerRefusalLines
 pub mod AskedReply
-pub mod AskedOnTop
+pub mod KindOver
 pub mod RepliesOnTop
 pub mod AskedNewer

@@ -6,7 +6,7 @@ use Rattle.object_stream.specs.declared.error.EntryError.TheVariants as entry
 use Rattle.graph_commands.specs.RefusalLines.{refusal_status, refusal_text}
 use Rattle.graph_commands.specs.Text.{◌⧺◌}
 use Rattle.newer_commands.specs.declared.refusal.NewerRefusal.{NewerRefusal}
-use Rattle.newer_commands.specs.declared.refusal.NewerRefusal.TheVariants.{Common, Entry, Unreadable, Cycle, Full}
+use Rattle.newer_commands.specs.declared.refusal.NewerRefusal.TheVariants.{Changed, Common, Entry, Unreadable, Cycle, Full}
 
 -- the number of the reason for which what answers a request is refused
 abbrev pub newer_entry_number : EntryError → ℕ
@@ -25,6 +25,7 @@ newer_refusal_text (Entry id error) =
 newer_refusal_text (Unreadable id) = codes "refused newer 7 id " ⧺ encode_lower id
 newer_refusal_text (Cycle id) = codes "refused newer 8 id " ⧺ encode_lower id
 newer_refusal_text Full = codes "refused newer 9"
+newer_refusal_text Changed = codes "refused newer 10"
 
 -- as without newer commits, and 1 for what is wrong with those that were asked for
 abbrev pub newer_refusal_status : NewerRefusal → ℕ

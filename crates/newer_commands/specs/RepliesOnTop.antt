@@ -7,7 +7,7 @@ use Rattle.graph_walks.specs.Walks.{Reaches}
 use Rattle.graph_folder.specs.declared.folder.ReadError.TheVariants as read
 use Rattle.graph_format.specs.Layer.{Layer}
 use Rattle.graph_format.specs.StoredHistory.{history_of}
-use Rattle.gix_commitgraph.specs.Graph.{graph_ids}
+use Rattle.gix_commitgraph.specs.Graph.{graph_ids, total}
 use Rattle.commit_search.specs.Positions.{numbers_of}
 use Rattle.commit_search.specs.WalkAnswer.{IsShortestWalk}
 use Rattle.graph_bases.specs.Comparison.{IsComparisonIn}
@@ -21,14 +21,15 @@ use Rattle.question_lines.specs.Questions.{question_ids}
 use Rattle.question_lines.specs.declared.question.Question.{Question}
 use Rattle.question_lines.specs.declared.question.Question.TheVariants as question
 use Rattle.newer_commits.specs.CommitsOnTop.{CommitsOnTop, nodes_on_top}
-use Rattle.newer_commits.specs.Finding.{Finds, HasId}
+use Rattle.newer_commits.specs.FindingOnTop.{Finds, HasId}
 use Rattle.newer_commits.specs.JoinedHistory.{joined_history}
 use Rattle.commit_requests.specs.Completion.{IsCompleteRefusal}
 use Rattle.commit_requests.specs.declared.error.CompleteError.{CompleteError}
 use Rattle.commit_requests.specs.declared.error.CompleteError.TheVariants as completion
-use Rattle.newer_commands.specs.AskedOnTop.{AreAllOnTop, AreAskedOnTop, IsKindOver, IsNothingOver}
+use Rattle.newer_questions.specs.AskedOnTop.{AreAllOnTop, AreAskedOnTop, IsNothingOver}
+use Rattle.newer_commands.specs.KindOver.{IsKindOver}
 use Rattle.newer_commands.specs.AskedReply.{AskedReply, Verdict}
-use Rattle.newer_commands.specs.declared.refusal.NewerRefusal.TheVariants.{Common, Entry, Unreadable, Cycle, Full}
+use Rattle.newer_commands.specs.declared.refusal.NewerRefusal.TheVariants.{Changed, Common, Entry, Unreadable, Cycle, Full}
 
 -- the history of all commits: those of the graph, and then the newer ones
 abbrev pub history_over : List Layer → CommitsOnTop → List Node
@@ -75,7 +76,7 @@ IsStoppedBy kind layers none top ids asked known error =
 abbrev pub MayAnswerOver : Kind → List Layer → CommitsOnTop → CommitsOnTop → Question → List (List ℕ) → Option (List ℕ)
     → ListedReply → Type 0
 MayAnswerOver kind layers none top asked requests known answer =
-    (AreAllOnTop kind layers (question_ids asked) requests known top × IsReplyOver layers top asked answer)
+    (AreAllOnTop kind (Scans layers) (question_ids asked) requests known top × IsReplyOver layers top asked answer)
     ⊎ ((number : ℕ) × (missing_of answer ≡ Some (number + 1))
     × IsStoppedBy kind layers none top (question_ids asked) requests known (completion.Unknown number))
 
@@ -97,6 +98,7 @@ MayTellAtLast kind layers none top asked requests known (Err (Common (Read read.
 MayTellAtLast kind layers none top asked requests known (Err (Common Walk)) =
     IsStoppedBy kind layers none top (question_ids asked) requests known completion.OutOfMemory
 MayTellAtLast kind layers none top asked requests known (Err (Common refusal)) = ⊥
+MayTellAtLast kind layers none top asked requests known (Err Changed) = ⊥
 
 -- This may be told to a question over the commits of these layers, which are none where there is no graph: lines that ask for
 -- what is lacking, and then an answer or a refusal. The reader has these bytes, where they are known.
@@ -104,27 +106,7 @@ pub record MayTellOver (layers : List Layer) (known : Option (List ℕ)) (asked 
   pub kind : Kind
   pub is_kind : IsKindOver layers (question_ids asked) kind
   pub none : CommitsOnTop
-  pub nothing : IsNothingOver layers none
+  pub nothing : IsNothingOver (total layers) none
   pub top : CommitsOnTop
-  pub on_top : AreAskedOnTop kind layers none (question_ids asked) told.asked top
+  pub on_top : AreAskedOnTop kind (Scans layers) none (question_ids asked) told.asked top
   pub at_last : MayTellAtLast kind layers none top asked told.asked known told.verdict
-
--- For private contracts: what may be told once all that is lacking was asked for
-abbrev pub MayFindOver : Kind → List Layer → CommitsOnTop → Question → List (List ℕ) → Option (List ℕ) → Verdict → Type 0
-MayFindOver kind layers none asked requests known verdict =
-    (top : CommitsOnTop) × AreAskedOnTop kind layers none (question_ids asked) requests top
-    × MayTellAtLast kind layers none top asked requests known verdict
-
--- what is told of an error
-abbrev pub IsVerdictOf : {E : Type 0} → CompleteError E → Verdict → Type 0
-IsVerdictOf (completion.Unknown number) verdict =
-    (answer : ListedReply) × (verdict ≡ Ok answer) × (missing_of answer ≡ Some (number + 1))
-IsVerdictOf (completion.Entry id error) verdict = verdict ≡ Err (Entry id error)
-IsVerdictOf (completion.Unreadable id) verdict = verdict ≡ Err (Unreadable id)
-IsVerdictOf (completion.Cycle id) verdict = verdict ≡ Err (Cycle id)
-IsVerdictOf completion.Full verdict = verdict ≡ Err Full
-IsVerdictOf completion.OutOfMemory verdict = verdict ≡ Err (Common Walk)
-IsVerdictOf completion.Device verdict = verdict ≡ Err (Common (Read read.Device))
-IsVerdictOf completion.WriteFailed verdict = ⊥
-IsVerdictOf (completion.Lost id) verdict = ⊥
-IsVerdictOf (completion.Source error) verdict = verdict ≡ Err (Common Walk)

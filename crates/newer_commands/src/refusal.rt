@@ -27,6 +27,9 @@ pub enum NewerRefusal {
     /// There are more commits than a graph has positions, or the words of listed parents have no
     /// room.
     Full,
+    /// Parts of the graph's files did not suffice while commits were asked for, and the whole graph
+    /// is right: it has changed meanwhile. It can be asked again.
+    Changed,
 }
 
 impl NewerRefusal {
@@ -55,6 +58,7 @@ impl fmt::Display for NewerRefusal {
             NewerRefusal::Unreadable(id) => write!(f, "refused newer 7 id {id}"),
             NewerRefusal::Cycle(id) => write!(f, "refused newer 8 id {id}"),
             NewerRefusal::Full => f.write_str("refused newer 9"),
+            NewerRefusal::Changed => f.write_str("refused newer 10"),
         }
     }
 }

@@ -1,29 +1,60 @@
-//! What is told once nothing more is asked for.
+//! What is told once nothing more is asked for, whatever the commits stand on.
 
-ghost use Rattle.std.specs.Prelude.{◌≡◌, Err, IfOk, OnOk};
+ghost use Rattle.std.specs.Prelude.{◌≡◌, ◌≢◌, ◌+◌, ◌<◌, ◌^◌, ℕ, List, Err, IfOk, OnErr, OnOk};
 ghost use Rattle.std.specs.Io.KnownBytes.{Appends};
 ghost use Rattle.answer_lines.specs.declared.reply.Form as shown;
 ghost use Rattle.graph_commands.specs.Text.{◌⧺◌, newline};
 ghost use Rattle.graph_commands.specs.WrittenAnswer.{WritesAnswer};
 ghost use Rattle.newer_commands.specs.AskedNewer.{IsRefusedAtOnce};
-ghost use Rattle.newer_commands.specs.AskedReply.{IsToldFor, asked_status, asked_text};
-ghost use Rattle.newer_commands.specs.AskedReply.{listed_verdict, status_of_verdict, verdict_text};
+ghost use Rattle.newer_commands.specs.AskedReply.{IsToldFor, IsVerdictOf, asked_status};
+ghost use Rattle.newer_commands.specs.AskedReply.{asked_text, listed_told, listed_verdict};
+ghost use Rattle.newer_commands.specs.AskedReply.{status_of_verdict, verdict_text};
 
 use crate::refusal::NewerRefusal;
 use answer_lines::reply::{Form, Reply};
+use answers::Answer;
+use commit_requests::CompleteError;
 use gix_hash_core::ObjectId;
 use graph_commands::line::{WriteFailed, write_line};
 use graph_commands::refusal::Refusal;
+use graph_folder::folder::ReadError;
 use std::alloc::Global;
 use std::io::Write;
 
 /// An answer, or why there is none.
-pub(crate) type Verdict = Result<Reply<Vec<ObjectId>>, NewerRefusal>;
+pub type Verdict = Result<Reply<Vec<ObjectId>>, NewerRefusal>;
+
+/// What is told where commits are not all there; or the error of the base, which is told otherwise
+/// over each. `WriteFailed` comes exactly where a write failed.
+pub fn verdict_of<E>(error: CompleteError<E>) -> Result<Result<Verdict, E>, WriteFailed>
+    requires few { (number : ℕ) → error ≡ CompleteError.Unknown number → number + 1 < 2 ^ 64 }
+    requires kept { (id : List ℕ) → error ≢ CompleteError.Lost id }
+    ensures told { IfOk result (λ told. IsVerdictOf error (listed_told told)) }
+    ensures failed { OnErr result (error ≡ CompleteError.WriteFailed) }
+{
+    match error {
+        CompleteError::Unknown(number) => {
+            Ok(Ok(Ok(Reply::Told(Answer::Unknown(number as u64 + 1)))))
+        }
+        CompleteError::Entry(id, error) => Ok(Ok(Err(NewerRefusal::Entry(id, error)))),
+        CompleteError::Unreadable(id) => Ok(Ok(Err(NewerRefusal::Unreadable(id)))),
+        CompleteError::Cycle(id) => Ok(Ok(Err(NewerRefusal::Cycle(id)))),
+        CompleteError::Full => Ok(Ok(Err(NewerRefusal::Full))),
+        CompleteError::OutOfMemory => Ok(Ok(Err(NewerRefusal::Common(Refusal::Walk)))),
+        CompleteError::Device => {
+            let device = Refusal::Read(ReadError::Device);
+            Ok(Ok(Err(NewerRefusal::Common(device))))
+        }
+        CompleteError::WriteFailed => Err(WriteFailed),
+        CompleteError::Lost(_) => unreachable!(),
+        CompleteError::Source(error) => Ok(Err(error)),
+    }
+}
 
 /// Writes an empty line, which ends what is asked for, and then the lines of the answer, or why
 /// there is none, and answers the exit status. Where there is no memory to write an answer, that is
 /// told in its place. `WriteFailed` comes where the writer fails.
-pub(crate) fn tell_at_last<W: Write>(
+pub fn tell_at_last<W: Write>(
     alloc: Global,
     form: Form,
     verdict: &Verdict,
@@ -42,7 +73,7 @@ pub(crate) fn tell_at_last<W: Write>(
 
 /// Writes the empty line where nothing is asked for, and the line of a refusal, and answers its
 /// exit status. `WriteFailed` comes where the writer fails.
-pub(crate) fn refuse_at_once<W: Write>(refusal: Refusal, writer: &mut W) -> Result<u8, WriteFailed>
+pub fn refuse_at_once<W: Write>(refusal: Refusal, writer: &mut W) -> Result<u8, WriteFailed>
     ensures { (form : shown.Form) → IfOk result (WritesAnswer (asked_text form) asked_status
         (IsRefusedAtOnce refusal) (W.contents writer.old) (W.contents writer.new)) }
 {

@@ -1,0 +1,3 @@
+pub mod OnBaseLemmas
+pub mod AskedLemmas
+pub mod ReplyLemmas

@@ -1,0 +1,2 @@
+pub mod AskedOnTop
+pub mod QuestionsOnTop

@@ -1,0 +1,11 @@
+//! Questions over a base and the commits that it lacks, which are asked for.
+//!
+//! [`answer_on_top`] answers a question that asks for a search, over any base: a graph in memory,
+//! files of which parts are read, or none.
+#![tactic(auto)]
+
+mod answer;
+mod ids;
+mod search;
+
+pub use answer::answer_on_top;
