@@ -1,5 +1,7 @@
 //! The filters of a history against its trees, as Git wrote them and with bits changed.
 
+ghost use Rattle.gix_commitgraph.specs.Sound.{Sound};
+
 use crate::filters::{WIDE, settings};
 use crate::fixtures::{by_kind, bytes_of, no_trees, put_large, small_trees, trees_without};
 use crate::graphs::{BITS_SHA1, BITS_SHA256, BitRow, GRAPH_SHA1, GRAPH_SHA256};
@@ -17,7 +19,7 @@ use test_trees::known::{KnownTrees, ReadError};
 use tree_changes::{Limits, Refusal};
 
 /// Limits that no tree of the tables meets.
-const LIMITS: Limits = Limits {
+pub const LIMITS: Limits = Limits {
     paths: 1000,
     names: 2048,
     trees: 10_000,
@@ -35,14 +37,10 @@ enum Standard {
     Written(Settings, Bounds),
 }
 
-/// Checks the filters of the graph that a file is. The contracts are long, and here they end.
-fn check(
-    rt: &impl Abort,
-    alloc: Global,
-    file: Vec<u8>,
-    source: &mut KnownTrees,
-    standard: Standard,
-) -> Answer {
+/// The graph that a file is, which passes its check.
+pub fn graph_of(rt: &impl Abort, alloc: Global, file: Vec<u8>) -> Graph
+    ensures { Sound result }
+{
     let path = format!(in alloc; "a file").expect(rt, "memory");
     let file = File::new(alloc, file, path).ok().expect(rt, "a layer");
     let mut files = Vec::new(alloc);
@@ -52,6 +50,18 @@ fn check(
     let Ok(_) = graph.verify_integrity(alloc, accept) else {
         panic!(rt; "the graph is wrong");
     };
+    graph
+}
+
+/// Checks the filters of the graph that a file is. The contracts are long, and here they end.
+fn check(
+    rt: &impl Abort,
+    alloc: Global,
+    file: Vec<u8>,
+    source: &mut KnownTrees,
+    standard: Standard,
+) -> Answer {
+    let graph = graph_of(rt, alloc, file);
     let Ok(filters) = GraphFilters::of_graph(alloc, &graph) else {
         panic!(rt; "the filters are refused");
     };
@@ -64,7 +74,7 @@ fn check(
 }
 
 /// The file of the history.
-fn file_of(rt: &impl Abort, alloc: Global, kind: Kind) -> Vec<u8> {
+pub fn file_of(rt: &impl Abort, alloc: Global, kind: Kind) -> Vec<u8> {
     bytes_of(rt, alloc, by_kind(kind, GRAPH_SHA1, GRAPH_SHA256))
 }
 

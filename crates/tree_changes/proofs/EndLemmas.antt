@@ -3,13 +3,13 @@ use Rattle.std.proofs.Common.{◌≡◌, ℕ, ◌-◌, ◌≤◌, List, [], ◌�
 use Rattle.std.proofs.Common.{ap, ◌∙◌, arith}
 use Rattle.std.proofs.lemmas.List.{take-append-drop}
 use Rattle.gix_hash_core.specs.declared.kind.Kind.{Kind}
-use Rattle.tree_objects.specs.Tree.{TreeEntry, BeginsWithEntry}
+use Rattle.tree_objects.specs.Tree.{TreeEntry, BeginsWithTreeEntry}
 use Rattle.tree_changes.specs.Walk.{IsEnd}
 
 regroup : (d n i x : List ℕ) → d ++ 32 ∷ (n ++ 0 ∷ (i ++ x)) ≡ (d ++ 32 ∷ (n ++ 0 ∷ i)) ++ x
 regroup d n i x = sym (simp append_assoc)
 
-pub entry_end : (kind : Kind) (bytes : List ℕ) (e : TreeEntry) (next : List ℕ) → BeginsWithEntry kind bytes e next
+pub entry_end : (kind : Kind) (bytes : List ℕ) (e : TreeEntry) (next : List ℕ) → BeginsWithTreeEntry kind bytes e next
     → IsEnd bytes next
 entry_end kind bytes e next b =
     (b.digits ++ 32 ∷ (e.name ++ 0 ∷ e.id), b.whole ∙ regroup b.digits e.name e.id next)

@@ -9,7 +9,7 @@ use Rattle.std.proofs.lemmas.Cmp.{nat_list_cmp_total}
 use Rattle.std.proofs.lemmas.List.Elements.{All-nil}
 use Rattle.std.specs.FinMap.{slice_cmp-IsAntisymmetric, nat_cmp-IsAntisymmetric}
 use Rattle.gix_hash_core.specs.declared.kind.Kind.{Kind}
-use Rattle.tree_objects.specs.Tree.{TreeEntry, BeginsWithEntry, AreEntriesAnd, StandsBefore, IsName, key_of}
+use Rattle.tree_objects.specs.Tree.{TreeEntry, BeginsWithTreeEntry, AreEntriesAnd, StandsBefore, IsName, key_of}
 use Rattle.tree_objects.specs.Tree.{AreInOrder}
 use Rattle.tree_objects.proofs.SplitLemmas.{opened, closed, first_is_one, no_byte}
 use Rattle.tree_changes.specs.Stands.{is_directory}
@@ -33,14 +33,14 @@ after_is_before : (x y : List ℕ) → slice_cmp nat_cmp x y ≡ Greater → sli
 after_is_before x y h = let back = nat_list_cmp_total.antisymm y x in rw h at back
 
 abbrev pub HasNone : Kind → List ℕ → Type 0
-HasNone kind bytes = (e : TreeEntry) (next : List ℕ) → BeginsWithEntry kind bytes e next → ⊥
+HasNone kind bytes = (e : TreeEntry) (next : List ℕ) → BeginsWithTreeEntry kind bytes e next → ⊥
 
 module _ (kind : Kind) (old new : List ℕ) where
   pub arm_none : HasNone kind old → HasNone kind new → (olds news : List TreeEntry) → AreEntriesAnd kind old olds []
       → AreEntriesAnd kind new news [] → AreInOrder olds → AreInOrder news → (olds ≡ []) × (news ≡ [])
   arm_none h k olds news a b r s = (closed kind old olds a h, closed kind new news b k)
 
-  pub arm_old : (a : TreeEntry) (next : List ℕ) (d : Bool) → BeginsWithEntry kind old a next → HasNone kind new
+  pub arm_old : (a : TreeEntry) (next : List ℕ) (d : Bool) → BeginsWithTreeEntry kind old a next → HasNone kind new
       → d ≡ is_directory a.kind → (olds news : List TreeEntry) → AreEntriesAnd kind old olds [] → AreEntriesAnd kind new news []
       → AreInOrder olds → AreInOrder news → IsPairOf kind olds news (Some a) None next new a.name d
   arm_old a next d h k e olds news are are' r s =
@@ -52,7 +52,7 @@ module _ (kind : Kind) (old new : List ℕ) where
         h.named,
       )
 
-  pub arm_new : (b : TreeEntry) (next : List ℕ) (d : Bool) → HasNone kind old → BeginsWithEntry kind new b next
+  pub arm_new : (b : TreeEntry) (next : List ℕ) (d : Bool) → HasNone kind old → BeginsWithTreeEntry kind new b next
       → d ≡ is_directory b.kind → (olds news : List TreeEntry) → AreEntriesAnd kind old olds [] → AreEntriesAnd kind new news []
       → AreInOrder olds → AreInOrder news → IsPairOf kind olds news None (Some b) old next b.name d
   arm_new b next d k h e olds news are are' r s =
@@ -64,8 +64,8 @@ module _ (kind : Kind) (old new : List ℕ) where
         h.named,
       )
 
-  module _ (a b : TreeEntry) (next next' : List ℕ) (d : Bool) (h : BeginsWithEntry kind old a next)
-      (k : BeginsWithEntry kind new b next') where
+  module _ (a b : TreeEntry) (next next' : List ℕ) (d : Bool) (h : BeginsWithTreeEntry kind old a next)
+      (k : BeginsWithTreeEntry kind new b next') where
     pub arm_less : StandsBefore a b → d ≡ is_directory a.kind → (olds news : List TreeEntry) → AreEntriesAnd kind old olds []
         → AreEntriesAnd kind new news [] → AreInOrder olds → AreInOrder news
         → IsPairOf kind olds news (Some a) None next new a.name d

@@ -4,7 +4,8 @@ ghost use Rattle.std.specs.Prelude.{◌≡◌, ◌≢◌, ◌<◌, ◌+◌, ◌�
 ghost use Rattle.std.specs.Prelude.{IsTrue, length, option_map};
 ghost use Rattle.gix_hash_core.specs.declared.kind.Kind.{Kind as HashKind};
 ghost use Rattle.tree_objects.specs.Entry.{entry_of};
-ghost use Rattle.tree_objects.specs.Tree.{TreeEntry, BeginsWithEntry, AreEntriesAnd, AreInOrder};
+ghost use Rattle.tree_objects.specs.Tree.{TreeEntry, BeginsWithTreeEntry, AreEntriesAnd};
+ghost use Rattle.tree_objects.specs.Tree.{AreInOrder};
 ghost use Rattle.tree_changes.specs.Stands.{World, item_of, is_directory};
 ghost use Rattle.tree_changes.specs.Walk.{Change, IsChange, IsSide, IsNext, IsEnd};
 ghost use Rattle.tree_objects.specs.Tree.{IsName};
@@ -90,8 +91,8 @@ fn next_pair<'a>(kind: Kind, old: &'a [u8], new: &'a [u8]) -> Option<Pair<'a>>
 /// Which of two entries stands first, with which two trees begin, or both at one name.
 fn first_of<'a>(old: &'a [u8], a: SplitEntry<'a>, new: &'a [u8], b: SplitEntry<'a>) -> Pair<'a>
     ensures pair { (kind : HashKind)
-        → BeginsWithEntry kind old.now (entry_of a.entry.entry) a.entry.next.now
-        → BeginsWithEntry kind new.now (entry_of b.entry.entry) b.entry.next.now
+        → BeginsWithTreeEntry kind old.now (entry_of a.entry.entry) a.entry.next.now
+        → BeginsWithTreeEntry kind new.now (entry_of b.entry.entry) b.entry.next.now
         → (olds news : List TreeEntry) → AreEntriesAnd kind old.now olds []
         → AreEntriesAnd kind new.now news [] → AreInOrder olds → AreInOrder news
         → IsSide kind olds (option_map entry_of result.old) result.old_rest.now result.name.now

@@ -2,7 +2,8 @@
 use Rattle.std.proofs.Common.{◌≡◌, ℕ, List, [], ◌∷◌, ◌++◌, length, length-append, append-nil, append_assoc, refl, sym, ap, ◌∙◌}
 use Rattle.std.proofs.Common.{subst, ◌⊎◌, inl, inr, arith}
 use Rattle.gix_hash_core.specs.declared.kind.Kind.{Kind}
-use Rattle.tree_objects.specs.Tree.{TreeEntry, BeginsWithEntry, AreEntriesAnd, StandsBefore, AreInOrder, IsTree, IsUnreadableAt}
+use Rattle.tree_objects.specs.Tree.{TreeEntry, BeginsWithTreeEntry, AreEntriesAnd, StandsBefore, AreInOrder, IsTree}
+use Rattle.tree_objects.specs.Tree.{IsUnreadableAt}
 use Rattle.tree_objects.specs.Tree.{IsOutOfOrderAt}
 use Rattle.tree_objects.specs.Refusal.{IsTreeRefusal}
 use Rattle.tree_objects.specs.declared.check.TreeError.{TreeError}
@@ -45,7 +46,7 @@ none_in_nothing kind (a ∷ more) y h =
 
 -- where no entry is, there are none
 none_there : (kind : Kind) (bytes : List ℕ) (more : List TreeEntry) (y : List ℕ)
-    → ((e : TreeEntry) (next : List ℕ) → BeginsWithEntry kind bytes e next → ⊥) → AreEntriesAnd kind bytes more y → more ≡ []
+    → ((e : TreeEntry) (next : List ℕ) → BeginsWithTreeEntry kind bytes e next → ⊥) → AreEntriesAnd kind bytes more y → more ≡ []
 none_there kind bytes [] y none h = refl
 none_there kind bytes (a ∷ more) y none h = absurd (none a h.0 h.1)
 

@@ -7,7 +7,7 @@ ghost use Rattle.std.specs.Cmp.Lexicographic.{slice_cmp};
 ghost use Rattle.std.specs.List.{AllPass};
 ghost use Rattle.tree_objects.specs.Mode.{is_octal};
 ghost use Rattle.tree_objects.specs.Entry.{entry_of};
-ghost use Rattle.tree_objects.specs.Tree.{TreeEntry, BeginsWithEntry, IsName, key_end, key_of};
+ghost use Rattle.tree_objects.specs.Tree.{TreeEntry, BeginsWithTreeEntry, IsName, key_end, key_of};
 
 use crate::mode::{EntryKind, are_octal, kind_by_mode, lower_bits};
 use gix_hash_core::Kind;
@@ -36,8 +36,8 @@ pub struct SplitEntry<'a> {
 /// The entry with which the bytes begin, and what follows it. `None` where they begin with none.
 pub fn split_entry<'a>(kind: Kind, bytes: &'a [u8]) -> Option<SplitEntry<'a>>
     ensures { MatchOption result
-        ((entry : TreeEntry) (next : List ℕ) → ¬ BeginsWithEntry kind bytes.now entry next)
-        (λ found. BeginsWithEntry kind bytes.now (entry_of found.entry) found.next.now) }
+        ((entry : TreeEntry) (next : List ℕ) → ¬ BeginsWithTreeEntry kind bytes.now entry next)
+        (λ found. BeginsWithTreeEntry kind bytes.now (entry_of found.entry) found.next.now) }
 {
     let Some(mode) = split_at_byte(b' ', bytes) else {
         return None;

@@ -2,14 +2,14 @@
 
 ghost use Rattle.std.specs.Prelude.{◌≡◌, ◌∷◌, ℕ, List, []};
 ghost use Rattle.gix_hash_core.specs.declared.kind.Kind.{Kind};
-ghost use Rattle.tree_objects.specs.Tree.{TreeEntry, BeginsWithEntry, AreEntriesAnd, IsTree};
+ghost use Rattle.tree_objects.specs.Tree.{TreeEntry, BeginsWithTreeEntry, AreEntriesAnd, IsTree};
 ghost use Rattle.tree_objects.specs.Refusal.{IsTreeRefusal};
 ghost use Rattle.tree_objects.specs.declared.check.TreeError.{TreeError};
 
 /// Bytes begin with one entry at most, and what follows it is one thing.
 pub fn bytes_begin_with_one_entry()
     ensures { (kind : Kind) (bytes : List ℕ) (one other : TreeEntry) (next rest : List ℕ)
-        → BeginsWithEntry kind bytes one next → BeginsWithEntry kind bytes other rest
+        → BeginsWithTreeEntry kind bytes one next → BeginsWithTreeEntry kind bytes other rest
         → (one ≡ other) × (next ≡ rest) }
 {}
 
@@ -18,7 +18,7 @@ pub fn bytes_begin_with_one_entry()
 pub fn entries_go_on_behind_the_first()
     ensures { (kind : Kind) (bytes : List ℕ) (entries : List TreeEntry) (first : TreeEntry)
         (next : List ℕ) → AreEntriesAnd kind bytes entries []
-        → BeginsWithEntry kind bytes first next
+        → BeginsWithTreeEntry kind bytes first next
         → (others : List TreeEntry) × (entries ≡ first ∷ others)
         × AreEntriesAnd kind next others [] }
 {}

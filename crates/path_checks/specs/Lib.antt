@@ -1,0 +1,2 @@
+pub mod NamedLoan
+pub mod RightByStream

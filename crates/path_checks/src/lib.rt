@@ -1,0 +1,14 @@
+//! Whether the changed-path filters of a graph are right, by trees that are asked for while the
+//! check runs: ids out, a line each, and entries in, as `git cat-file --batch` reads and writes
+//! them.
+//!
+//! A tree that is read has the id that was asked for, and each write but one that failed is a line
+//! that asks.
+#![tactic(auto)]
+
+mod check;
+mod error;
+mod lent;
+
+pub use check::check_by_requests;
+pub use error::PathsError;

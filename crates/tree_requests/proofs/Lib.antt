@@ -1,0 +1,5 @@
+mod RangeLemmas
+mod MapLemmas
+mod StoreLemmas
+mod StreamLemmas
+mod AskingLemmas
