@@ -7,8 +7,9 @@ FOLDER keeps the history of bench/topics.py, a million commits, for further runs
 1,000 and 100,000 commits that the commit-graph lacks, in repositories that borrow its objects. A line a number of them, in
 milliseconds a process: the elapsed and the processor time of `git cgraph is-ancestor`, with the processes that it starts, those of
 `git merge-base --is-ancestor`, the ratios of both, and how many microseconds of processor each newer commit adds. Pairs are of the
-newest commit and of others among the newest 2,000. The first line is `git cgraph is-ancestor --graph-only` of pairs in the graph. The
-last ones have no commit-graph at all. The processes take turns, and all is read once before. Each has to answer as Git does.
+newest commit and of others among the newest 2,000. The first line is `git cgraph is-ancestor --graph-only` of pairs in the graph. Then
+all of these once more with `--unchecked`; and the last ones have no commit-graph at all. The processes take turns, and all is read once
+before. Each has to answer as Git does.
 `git cgraph` is installed in FOLDER.
 """
 
@@ -34,11 +35,13 @@ def main(folder):
     install(folder)
     common.print_load()
     print("%-28s %9s %9s %9s %9s %7s %7s %9s" % ("ms", "elapsed", "own", "Git", "own", "ratio", "own", "us each"))
-    made = Made(folder)
-    base, same = report("in the graph", made.folder, made.ids, ["--graph-only"], 0, 0)
-    for count in NEWER:
-        path, ids = repository(folder, "newer_%d" % count, count, made)
-        same = report("%d newer" % count, path, made.ids + ids, [], count, base)[1] and same
+    made, same = Made(folder), True
+    for title, options in (("", []), ("unchecked, ", ["--unchecked"])):
+        base, right = report(title + "in the graph", made.folder, made.ids, ["--graph-only", *options], 0, 0)
+        same = same and right
+        for count in NEWER:
+            path, ids = repository(folder, "newer_%d" % count, count, made)
+            same = report(title + "%d newer" % count, path, made.ids + ids, options, count, base)[1] and same
     for count in ALONE:
         path, ids = repository(folder, "alone_%d" % count, count)
         same = report("%d, no commit-graph" % count, path, ids, [], count, 0)[1] and same

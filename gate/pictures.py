@@ -48,7 +48,7 @@ text { font-family: sans-serif; font-size: 12px; fill: #1f2328; }
 BOX, RISE, MARGIN = 24, 62, 20
 """The height of a crate's box, from floor to floor, and what stays free at the edges of a picture."""
 
-PLAN_WIDTH, FLOOR_NUMBER, LETTER, PADDING, GAP, WAY = 1160, 24, 7.3, 14, 12, 8
+PLAN_WIDTH, FLOOR_NUMBER, LETTER, PADDING, GAP, WAY = 1280, 24, 7.3, 14, 12, 8
 """The plan's width, the room for the number of a floor, the widths of a letter, of the room around a name, of the gap between
 two boxes, and of a line that passes between them."""
 

@@ -46,14 +46,18 @@ is_command() {
     [ $# -gt 0 ] && is_own "$1" || return 1
     shift
     case $reads,${1-} in
-    trusted,--unchecked | newer,--unchecked) shift ;;
-    newer,--newer)
+    trusted,--unchecked)
+        shift
+        [ "${1-}" != --newer ] || return 1
+        ;;
+    newer,--unchecked) shift ;;
+    esac
+    if [ "$reads" = newer ] && [ "${1-}" = --newer ]; then
         shift
         is_id "${1-}" || [ $# -eq 0 ] || shift
         takes_ids $#
         return
-        ;;
-    esac
+    fi
     case $reads,$# in
     path,0 | trusted,0 | newer,0) return 1 ;;
     optional,0) ;;
@@ -85,7 +89,7 @@ usage() {
             printf "%s %s", count++ ? " |" : "usage: " name, $1
             if ($3 == "path") printf " PATH"
             if ($3 == "trusted") printf " [--unchecked] PATH"
-            if ($3 == "newer") printf " [--unchecked|--newer] PATH"
+            if ($3 == "newer") printf " [--unchecked] [--newer] PATH"
             if ($3 == "optional") printf " [PATH]"
             for (id = 1; id <= $4 + 0; id++) printf " HEX"
             if ($4 ~ /\+/) printf ".."

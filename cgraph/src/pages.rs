@@ -160,7 +160,7 @@ fn operands(command: &Command) -> String {
         "path" => " PATH",
         "optional" => " [PATH]",
         "trusted" => " [--unchecked] PATH",
-        "newer" => " [--unchecked|--newer] PATH",
+        "newer" => " [--unchecked] [--newer] PATH",
         _ => "",
     };
     match command.takes {

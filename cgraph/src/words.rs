@@ -33,9 +33,7 @@ impl Words {
 
     /// Whether the question is also about commits that the commit-graph lacks, which Git hands over.
     pub fn is_about_newer(&self) -> bool {
-        matches!(self.word(), "is-ancestor" | "walk" | "merge-base")
-            && !self.options.graph_only
-            && !self.options.unchecked
+        matches!(self.word(), "is-ancestor" | "walk" | "merge-base") && !self.options.graph_only
     }
 
     /// Whether the answer is to be an object of JSON. With `--quiet` there is none.

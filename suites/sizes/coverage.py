@@ -11,8 +11,8 @@ WORD = re.compile(r'word == b"([a-z-]+)"')
 
 
 def all_names():
-    """The names that the rows of a table have to have: of the commands, of those with `--unchecked` and `--newer`, of the questions, and of the calls
-    that the header declares."""
+    """The names that the rows of a table have to have: of the commands, of those with `--unchecked`, with `--newer` and with both, of the
+    questions, and of the calls that the header declares."""
     for command in commands():
         if command.word == "ask":
             yield from ("ask " + word for word in questions())
@@ -21,7 +21,7 @@ def all_names():
         if command.may_be_unchecked():
             yield command.word + " --unchecked"
         if command.reads == "newer":
-            yield command.word + " --newer"
+            yield from (command.word + option for option in (" --newer", " --unchecked --newer"))
     yield from library.names()
 
 

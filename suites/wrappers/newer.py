@@ -59,9 +59,10 @@ def check_counts(results, spot):
     ):
         make()
         for words in (["is-ancestor", "main~3", "main"], ["walk", "main", "main~3"], ["merge-base", "main", "main~1", "main~2"]):
-            answer = spot.ask(words[0], "--json", *words[1:])
-            right = answer.status == 0 and not answer.err and object_of(answer)["newer"] == count
-            results.check("git cgraph %s --json, %s" % (words[0], title), None if right else "it is %r" % (answer,))
+            for options in (["--json"], ["--json", "--unchecked"]):
+                answer = spot.ask(words[0], *options, *words[1:])
+                right = answer.status == 0 and not answer.err and object_of(answer)["newer"] == count
+                results.check("git cgraph %s %s, %s" % (words[0], " ".join(options), title), None if right else "it is %r" % (answer,))
     answer = spot.ask("is-ancestor", "--graph-only", "main~3", "main")
     right = answer.status == 128 and "there is no commit-graph" in answer.err
     results.check("git cgraph is-ancestor --graph-only, without a commit-graph", None if right else "it is %r" % (answer,))

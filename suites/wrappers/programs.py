@@ -139,8 +139,8 @@ def answer(word, *rest):
     """Answers one command, and gives its status."""
     if word == "write":
         return write(rest)
-    if rest[:1] == ("--newer",):
-        return answer_newer(*rest[1:])
+    if "--newer" in rest[:2]:
+        return answer_newer(*rest[rest.index("--newer") + 1 :])
     path, *rest = [part for part in rest if part != "--unchecked"] or ["."]
     if word == "show":
         return show(path)

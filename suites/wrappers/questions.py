@@ -254,12 +254,13 @@ def check_statuses(results, clone, repository):
         (["merge-base", "--verbose", "HEAD", "HEAD"], "merge-base\n"),
     ):
         results.check("git cgraph " + " ".join(words), exactly(ask(clone, words, repository), 0, out))
-    clone.put_program("historytool", "echo \"$1 $2 $3\"\n")
+    clone.put_program("historytool", "[ \"$3\" != --newer ] || path=\" $4\"\necho \"$1 $2 $3$path\"\n")
     for command in commands():
         if command.may_be_unchecked() and command.by_git:
             revisions, path = WORDS[command.word][1] if command.word in WORDS else [], "info/commit-graph"
             words = [command.word, *revisions[:1], "--unchecked", *revisions[1:]]
-            out = "%s --unchecked %s\n" % (ASKED.get(command.word, command.word), path if revisions else "info")
+            given = ["--newer", path] if command.word in ABOUT_NEWER else [path if revisions else "info"]
+            out = "%s\n" % " ".join([ASKED.get(command.word, command.word), "--unchecked", *given])
             results.check("git cgraph " + " ".join(words), exactly(ask(clone, words, repository), 0, out))
     clone.put_program("historytool", "echo 'usage: other words' >&2\nexit 2\n")
     answer = ask(clone, ["check"], repository)

@@ -80,9 +80,9 @@ def check_unknown(results, clone, rows):
     cause = ids[1] + " is not in the repository; the ids given before it are"
     said = refusals.sentences(rows, line, "merge-base", refusals.Known(cause=cause, advice="see what 'git fsck' says"))
     clone.put_program("historytool", "echo '%s'\nexit 1\n" % line)
-    for path in ([], ["."]):
-        answer = clone.run(["historytool", "merge-base", "--newer", *path, *ids])
-        title = " ".join(["an id that Git does not know is named", *path])
+    for options, path in ((options, path) for options in (["--newer"], ["--unchecked", "--newer"]) for path in ([], ["."])):
+        answer = clone.run(["historytool", "merge-base", *options, *path, *ids])
+        title = " ".join(["an id that Git does not know is named", *options, *path])
         results.check(title, right(answer, "\n" + line, "merge-base", said))
 
 

@@ -52,7 +52,7 @@ def usage(program):
     """The usage text of a program."""
     parts = []
     for command in commands(program):
-        words = {"path": "PATH", "optional": "[PATH]", "trusted": "[--unchecked] PATH", "newer": "[--unchecked|--newer] PATH"}
+        words = {"path": "PATH", "optional": "[PATH]", "trusted": "[--unchecked] PATH", "newer": "[--unchecked] [--newer] PATH"}
         path = words.get(command.reads, "").split()
         more = ".." if command.takes_more() else " [FROM TO]" if command.takes_range() else ""
         parts.append(" ".join([command.word, *path, *["HEX"] * command.least()]) + more)

@@ -120,10 +120,10 @@ def check_passing(results, wrapper, clone):
             answer = exactly(clone.run([wrapper.name, *words]), 0, "line %s\n" % " ".join(words))
             results.check("%s %s --unchecked" % (wrapper.name, command.word), answer)
         if command.reads == "newer":
-            for path in ([], ["."]):
-                words = [command.word, "--newer", *path, *["ab" * 20] * command.least()]
+            for options, path in ((options, path) for options in (["--newer"], ["--unchecked", "--newer"]) for path in ([], ["."])):
+                words = [command.word, *options, *path, *["ab" * 20] * command.least()]
                 answer = exactly(clone.run([wrapper.name, *words]), 0, "\nline %s\n" % " ".join(words))
-                results.check(" ".join([wrapper.name, command.word, "--newer", *path]), answer)
+                results.check(" ".join([wrapper.name, command.word, *options, *path]), answer)
     clone.put_program(wrapper.name, "echo why >&2\nexit 2\n")
     answer = clone.run([wrapper.name, *first_command(wrapper)])
     results.check("%s, what the program says on standard error" % wrapper.name, exactly(answer, 2, "", "why\n"))

@@ -1,5 +1,5 @@
 -- Which names ask for commands, by the number of words after them.
-use Rattle.std.proofs.Common.{◌≡◌, ◌⊎◌, ℕ, ◌-◌, ◌<◌, ◌≤◌, List, [], ◌∷◌, length, map, get_or, take, drop}
+use Rattle.std.proofs.Common.{◌≡◌, ◌≢◌, ◌⊎◌, ℕ, ◌-◌, ◌<◌, ◌≤◌, List, [], ◌∷◌, length, map, get_or, take, drop}
 use Rattle.std.proofs.Common.{inl, inr, refl, sym, ap, subst, string_bytes, ◌∙◌, arith}
 use Rattle.std.proofs.lemmas.List.{length-map, take_all}
 use Rattle.hex.proofs.HexLemmas.{decode_of-ok}
@@ -26,9 +26,12 @@ long : (name one : List ℕ) (graph : AskedGraph) (more words : List (List ℕ))
     → AreQuestionWords name graph (one ∷ more) words
     → (second third : List ℕ) × (others : List (List ℕ)) × (words ≡ name ∷ second ∷ third ∷ others)
 long name one (on.Checked path) more words is = (path.now, one, more, is.0)
-long name one (on.Unchecked path) more words is = (codes "--unchecked", path.now, one ∷ more, is)
+long name one (on.Unchecked path) more words is = (codes "--unchecked", path.now, one ∷ more, is.0)
 long name one (on.Newer None) more words is = (codes "--newer", one, more, is.0)
 long name one (on.Newer (Some path)) more words is = (codes "--newer", path.now, one ∷ more, is.0)
+long name one (on.NewerUnchecked None) more words is = (codes "--unchecked", codes "--newer", one ∷ more, is.0)
+long name one (on.NewerUnchecked (Some path)) more words is =
+    (codes "--unchecked", codes "--newer", path.now ∷ one ∷ more, is.0)
 
 -- a name that asks alone
 pub named_alone : (help version name : List ℕ) (asked : Command) → AskAfterName help version (name ∷ []) asked
@@ -50,7 +53,7 @@ named_alone help version name (command.MergeBaseIds group) is =
 named_alone help version name (command.Check path) is = let e = is in cc
 named_alone help version name (command.Show path) is = let e = is in cc
 named_alone help version name (command.Ask path) is = let e = is.0 in cc
-named_alone help version name (command.AskUnchecked path) is = let e = is in cc
+named_alone help version name (command.AskUnchecked path) is = let e = is.0 in cc
 named_alone help version name (command.Ids path None) is = let e = is in cc
 named_alone help version name (command.Ids path (Some range)) is = let e = is.2 in cc
 named_alone help version name (command.Objects path None) is = let e = is in cc
@@ -83,7 +86,7 @@ named_with_path help version name path (command.Show at) is = let e = is in inr 
 named_with_path help version name path (command.Ask at) is =
     let e = is.0 in let same : at.now ≡ path = cc in
     inr (inr (inl (cc, subst (λ (p : List ℕ). ¬ IsOption p) same is.1)))
-named_with_path help version name path (command.AskUnchecked at) is = let e = is in cc
+named_with_path help version name path (command.AskUnchecked at) is = let e = is.0 in cc
 named_with_path help version name path (command.Ids at None) is = let e = is in inr (inr (inr (inl cc)))
 named_with_path help version name path (command.Ids at (Some range)) is = let e = is.2 in cc
 named_with_path help version name path (command.Objects at None) is = let e = is in inr (inr (inr (inr (inl cc))))
@@ -130,16 +133,18 @@ NamedWithIds name path first others =
     (IsOfTwo name × AskOfTwo name (name ∷ path ∷ first ∷ map string_bytes others))
     ⊎ (IsOfRange name × AskOfRange first others)
     ⊎ (IsOfMany name × AskOfMany name (name ∷ path ∷ first ∷ map string_bytes others))
-    ⊎ ((name ≡ codes "ask") × (path ≡ codes "--unchecked") × (others ≡ []))
+    ⊎ ((name ≡ codes "ask") × (path ≡ codes "--unchecked") × (first ≢ codes "--newer") × (others ≡ []))
 
 -- the name of a question is the first of its words
 named : (name other one : List ℕ) (graph : AskedGraph) (more rest : List (List ℕ))
     → AreQuestionWords other graph (one ∷ more) (name ∷ rest)
     → (name ≡ other) × AreQuestionWords name graph (one ∷ more) (name ∷ rest)
 named name other one (on.Checked path) more rest is = let e = is.0 in (cc, (cc, is.1))
-named name other one (on.Unchecked path) more rest is = (cc, cc)
+named name other one (on.Unchecked path) more rest is = let e = is.0 in (cc, (cc, is.1))
 named name other one (on.Newer None) more rest is = let e = is.0 in (cc, (cc, is.1))
 named name other one (on.Newer (Some path)) more rest is = let e = is.0 in (cc, (cc, is.1))
+named name other one (on.NewerUnchecked None) more rest is = let e = is.0 in (cc, (cc, is.1))
+named name other one (on.NewerUnchecked (Some path)) more rest is = let e = is.0 in (cc, (cc, is.1))
 
 -- where there are others, there is a first of them
 many : (name one : List ℕ) (graph : AskedGraph) (others : List (String Global)) (words : List (List ℕ))
@@ -182,7 +187,8 @@ named_with_ids help version name path first others (command.Check at) is = let e
 named_with_ids help version name path first others (command.Show at) is = let e = is in cc
 named_with_ids help version name path first others (command.Ask at) is = let e = is.0 in cc
 named_with_ids help version name path first others (command.AskUnchecked at) is =
-    let none : map string_bytes others ≡ [] = cc in inr (inr (inr (cc, cc, no_others others none)))
+    let e = is.0 in
+    let none : map string_bytes others ≡ [] = cc in inr (inr (inr (cc, cc, λ newer. is.1 cc, no_others others none)))
 named_with_ids help version name path first others (command.Ids at None) is = let e = is in cc
 named_with_ids help version name path first others (command.Ids at (Some range)) is =
     let both = range_asked name first is.0 is.1 (codes "ids") path at.now others range is.2 is.3 in
@@ -201,32 +207,73 @@ as_many_words : (name one other : List ℕ) (graph asks : AskedGraph) (more thos
     → one ∷ more ≡ other ∷ those
 as_many_words name one other (on.Checked path) (on.Checked at) more those words is are = let e = is.0 in let f = are.0 in cc
 as_many_words name one other (on.Checked path) (on.Unchecked at) more those words is are =
-    let e = is.0 in let same : path.now ≡ codes "--unchecked" = cc in absurd (is.1 (inl same))
+    let e = is.0 in let f = are.0 in let same : path.now ≡ codes "--unchecked" = cc in absurd (is.1 (inl same))
 as_many_words name one other (on.Checked path) (on.Newer None) more those words is are =
     let e = is.0 in let f = are.0 in let same : path.now ≡ codes "--newer" = cc in absurd (is.1 (inr same))
 as_many_words name one other (on.Checked path) (on.Newer (Some at)) more those words is are =
     let e = is.0 in let f = are.0 in let same : path.now ≡ codes "--newer" = cc in absurd (is.1 (inr same))
+as_many_words name one other (on.Checked path) (on.NewerUnchecked None) more those words is are =
+    let e = is.0 in let f = are.0 in let same : path.now ≡ codes "--unchecked" = cc in absurd (is.1 (inl same))
+as_many_words name one other (on.Checked path) (on.NewerUnchecked (Some at)) more those words is are =
+    let e = is.0 in let f = are.0 in let same : path.now ≡ codes "--unchecked" = cc in absurd (is.1 (inl same))
 as_many_words name one other (on.Unchecked path) (on.Checked at) more those words is are =
-    let f = are.0 in let same : at.now ≡ codes "--unchecked" = cc in absurd (are.1 (inl same))
-as_many_words name one other (on.Unchecked path) (on.Unchecked at) more those words is are = cc
+    let e = is.0 in let f = are.0 in let same : at.now ≡ codes "--unchecked" = cc in absurd (are.1 (inl same))
+as_many_words name one other (on.Unchecked path) (on.Unchecked at) more those words is are =
+    let e = is.0 in let f = are.0 in cc
 as_many_words name one other (on.Unchecked path) (on.Newer None) more those words is are =
-    let f = are.0 in let same : codes "--unchecked" ≡ codes "--newer" = cc in absurd (apart same)
+    let e = is.0 in let f = are.0 in let same : codes "--unchecked" ≡ codes "--newer" = cc in absurd (apart same)
 as_many_words name one other (on.Unchecked path) (on.Newer (Some at)) more those words is are =
-    let f = are.0 in let same : codes "--unchecked" ≡ codes "--newer" = cc in absurd (apart same)
+    let e = is.0 in let f = are.0 in let same : codes "--unchecked" ≡ codes "--newer" = cc in absurd (apart same)
+as_many_words name one other (on.Unchecked path) (on.NewerUnchecked None) more those words is are =
+    let e = is.0 in let f = are.0 in let same : path.now ≡ codes "--newer" = cc in absurd (is.1 same)
+as_many_words name one other (on.Unchecked path) (on.NewerUnchecked (Some at)) more those words is are =
+    let e = is.0 in let f = are.0 in let same : path.now ≡ codes "--newer" = cc in absurd (is.1 same)
 as_many_words name one other (on.Newer None) (on.Checked at) more those words is are =
     let e = is.0 in let f = are.0 in let same : at.now ≡ codes "--newer" = cc in absurd (are.1 (inr same))
 as_many_words name one other (on.Newer None) (on.Unchecked at) more those words is are =
-    let e = is.0 in let same : codes "--unchecked" ≡ codes "--newer" = cc in absurd (apart same)
+    let e = is.0 in let f = are.0 in let same : codes "--unchecked" ≡ codes "--newer" = cc in absurd (apart same)
 as_many_words name one other (on.Newer None) (on.Newer None) more those words is are = let e = is.0 in let f = are.0 in cc
 as_many_words name one other (on.Newer None) (on.Newer (Some at)) more those words is are =
     let e = is.0 in let f = are.0 in let same : one ≡ at.now = cc in absurd (are.1 (subst IsId same is.1))
+as_many_words name one other (on.Newer None) (on.NewerUnchecked None) more those words is are =
+    let e = is.0 in let f = are.0 in let same : codes "--unchecked" ≡ codes "--newer" = cc in absurd (apart same)
+as_many_words name one other (on.Newer None) (on.NewerUnchecked (Some at)) more those words is are =
+    let e = is.0 in let f = are.0 in let same : codes "--unchecked" ≡ codes "--newer" = cc in absurd (apart same)
 as_many_words name one other (on.Newer (Some path)) (on.Checked at) more those words is are =
     let e = is.0 in let f = are.0 in let same : at.now ≡ codes "--newer" = cc in absurd (are.1 (inr same))
 as_many_words name one other (on.Newer (Some path)) (on.Unchecked at) more those words is are =
-    let e = is.0 in let same : codes "--unchecked" ≡ codes "--newer" = cc in absurd (apart same)
+    let e = is.0 in let f = are.0 in let same : codes "--unchecked" ≡ codes "--newer" = cc in absurd (apart same)
 as_many_words name one other (on.Newer (Some path)) (on.Newer None) more those words is are =
     let e = is.0 in let f = are.0 in let same : other ≡ path.now = cc in absurd (is.1 (subst IsId same are.1))
 as_many_words name one other (on.Newer (Some path)) (on.Newer (Some at)) more those words is are =
+    let e = is.0 in let f = are.0 in cc
+as_many_words name one other (on.Newer (Some path)) (on.NewerUnchecked None) more those words is are =
+    let e = is.0 in let f = are.0 in let same : codes "--unchecked" ≡ codes "--newer" = cc in absurd (apart same)
+as_many_words name one other (on.Newer (Some path)) (on.NewerUnchecked (Some at)) more those words is are =
+    let e = is.0 in let f = are.0 in let same : codes "--unchecked" ≡ codes "--newer" = cc in absurd (apart same)
+as_many_words name one other (on.NewerUnchecked None) (on.Checked at) more those words is are =
+    let e = is.0 in let f = are.0 in let same : at.now ≡ codes "--unchecked" = cc in absurd (are.1 (inl same))
+as_many_words name one other (on.NewerUnchecked None) (on.Unchecked at) more those words is are =
+    let e = is.0 in let f = are.0 in let same : at.now ≡ codes "--newer" = cc in absurd (are.1 same)
+as_many_words name one other (on.NewerUnchecked None) (on.Newer None) more those words is are =
+    let e = is.0 in let f = are.0 in let same : codes "--unchecked" ≡ codes "--newer" = cc in absurd (apart same)
+as_many_words name one other (on.NewerUnchecked None) (on.Newer (Some at)) more those words is are =
+    let e = is.0 in let f = are.0 in let same : codes "--unchecked" ≡ codes "--newer" = cc in absurd (apart same)
+as_many_words name one other (on.NewerUnchecked None) (on.NewerUnchecked None) more those words is are =
+    let e = is.0 in let f = are.0 in cc
+as_many_words name one other (on.NewerUnchecked None) (on.NewerUnchecked (Some at)) more those words is are =
+    let e = is.0 in let f = are.0 in let same : one ≡ at.now = cc in absurd (are.1 (subst IsId same is.1))
+as_many_words name one other (on.NewerUnchecked (Some path)) (on.Checked at) more those words is are =
+    let e = is.0 in let f = are.0 in let same : at.now ≡ codes "--unchecked" = cc in absurd (are.1 (inl same))
+as_many_words name one other (on.NewerUnchecked (Some path)) (on.Unchecked at) more those words is are =
+    let e = is.0 in let f = are.0 in let same : at.now ≡ codes "--newer" = cc in absurd (are.1 same)
+as_many_words name one other (on.NewerUnchecked (Some path)) (on.Newer None) more those words is are =
+    let e = is.0 in let f = are.0 in let same : codes "--unchecked" ≡ codes "--newer" = cc in absurd (apart same)
+as_many_words name one other (on.NewerUnchecked (Some path)) (on.Newer (Some at)) more those words is are =
+    let e = is.0 in let f = are.0 in let same : codes "--unchecked" ≡ codes "--newer" = cc in absurd (apart same)
+as_many_words name one other (on.NewerUnchecked (Some path)) (on.NewerUnchecked None) more those words is are =
+    let e = is.0 in let f = are.0 in let same : other ≡ path.now = cc in absurd (is.1 (subst IsId same are.1))
+as_many_words name one other (on.NewerUnchecked (Some path)) (on.NewerUnchecked (Some at)) more those words is are =
     let e = is.0 in let f = are.0 in cc
 
 -- where one other id is asked for, there is just one
@@ -262,7 +309,7 @@ none_asked help version (command.MergeBaseIds group) is =
 none_asked help version (command.Check path) is = let e = is in cc
 none_asked help version (command.Show path) is = let e = is in cc
 none_asked help version (command.Ask path) is = let e = is.0 in cc
-none_asked help version (command.AskUnchecked path) is = let e = is in cc
+none_asked help version (command.AskUnchecked path) is = let e = is.0 in cc
 none_asked help version (command.Ids path None) is = let e = is in cc
 none_asked help version (command.Ids path (Some range)) is = let e = is.2 in cc
 none_asked help version (command.Objects path None) is = let e = is in cc

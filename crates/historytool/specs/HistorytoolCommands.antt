@@ -22,6 +22,7 @@ use Rattle.history_commands.specs.AskedOnce.{MayAskOnce, MayReplyAt}
 use Rattle.unchecked_commands.specs.TrustedReplies.{MayReplyTrusted}
 use Rattle.newer_commands.specs.AskedNewer.{MayAskNewer, MayReplyNewer}
 use Rattle.newer_commands.specs.AskedReply.{asked_text, asked_status}
+use Rattle.newer_unchecked.specs.TrustedOnTop.{MayReplyTrustedNewer}
 use Rattle.answer_lines.specs.Replies.{response_text, response_status}
 use Rattle.answer_lines.specs.declared.reply.Form.{Form}
 use Rattle.answer_lines.specs.declared.reply.Form.TheVariants.{Whole, IdsAlone}
@@ -45,14 +46,19 @@ abbrev pub IsOption : List ℕ → Type 0
 IsOption word = (word ≡ codes "--unchecked") ⊎ (word ≡ codes "--newer")
 
 -- These are the words of a command about a graph, and ids if it takes some, after the program's own name: the path alone where
--- the graph is checked; the word `--unchecked` before it where it is not; and the word `--newer` where newer commits stand on it,
--- with no path behind that where they stand on none.
+-- the graph is checked; the word `--unchecked` before it where it is not; and the word `--newer`, behind that one, where newer
+-- commits stand on it, with no path where they stand on none.
 abbrev pub AreQuestionWords : List ℕ → AskedGraph → List (List ℕ) → List (List ℕ) → Type 0
 AreQuestionWords name (graph.Checked path) ids words = (words ≡ name ∷ path.now ∷ ids) × (¬ IsOption path.now)
-AreQuestionWords name (graph.Unchecked path) ids words = words ≡ name ∷ codes "--unchecked" ∷ path.now ∷ ids
+AreQuestionWords name (graph.Unchecked path) ids words =
+    (words ≡ name ∷ codes "--unchecked" ∷ path.now ∷ ids) × (path.now ≢ codes "--newer")
 AreQuestionWords name (graph.Newer None) ids words = (words ≡ name ∷ codes "--newer" ∷ ids) × StartWithId ids
 AreQuestionWords name (graph.Newer (Some path)) ids words =
     (words ≡ name ∷ codes "--newer" ∷ path.now ∷ ids) × (¬ IsId path.now)
+AreQuestionWords name (graph.NewerUnchecked None) ids words =
+    (words ≡ name ∷ codes "--unchecked" ∷ codes "--newer" ∷ ids) × StartWithId ids
+AreQuestionWords name (graph.NewerUnchecked (Some path)) ids words =
+    (words ≡ name ∷ codes "--unchecked" ∷ codes "--newer" ∷ path.now ∷ ids) × (¬ IsId path.now)
 
 -- the words after the program's own name ask for this command, given the texts of the help and of the version
 abbrev pub AskAfterName : List ℕ → List ℕ → List (List ℕ) → Command → Type 0
@@ -93,7 +99,8 @@ abbrev pub TellsOfItself : List ℕ → Option (List ℕ) → Option (List ℕ) 
 TellsOfItself text old new status = Appends old new (text ⧺ newline) × (status ≡ 0)
 
 -- an answer to the question of a name about the ids that texts spell: one that its command may give, where the graph is checked;
--- one that it may give where it is not; or one about the graph, or none, and the newer commits that are asked for
+-- one that it may give where it is not; or one about the graph, or none, and the newer commits that are asked for, over a graph
+-- that is checked, or over one that is not
 abbrev pub TellsOf : AskedGraph → Form → Name → List (List ℕ) → Option (List ℕ) → Option (List ℕ) → Type 0
     → (List ℕ → ℕ → ℕ → Result (List Layer) OpenError → Type 0) → ℕ → ℕ → Option (List ℕ) → Option (List ℕ) → ℕ → Type 0
 TellsOf (graph.Checked path) form name texts input unread IsLeftAlone MayOpenAt before after old new status =
@@ -106,6 +113,10 @@ TellsOf (graph.Newer path) form name texts input unread IsLeftAlone MayOpenAt be
     WritesAnswer (asked_text form) asked_status
     (MayAskNewer name texts (IsLeftAlone × Keeps input unread)
     (MayReplyNewer (option_map (λ p. p.now) path) IsLeftAlone (λ at. MayOpenAt at before after) input unread)) old new status
+TellsOf (graph.NewerUnchecked path) form name texts input unread IsLeftAlone MayOpenAt before after old new status =
+    WritesAnswer (asked_text form) asked_status
+    (MayAskNewer name texts (IsLeftAlone × Keeps input unread)
+    (MayReplyTrustedNewer (option_map (λ p. p.now) path) IsLeftAlone MayOpenAt before after input unread)) old new status
 
 -- an answer that the command may give is written, with its status: help and version leave the folder alone; each other command
 -- answers of what the opener may answer at its path, while the count of failures goes from `before` to `after`, where it has a

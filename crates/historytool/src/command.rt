@@ -26,6 +26,10 @@ use history_commands::run::{
 use newer_commands::run::{
     run_is_ancestor_newer, run_merge_base_ids_newer, run_merge_base_newer, run_walk_newer,
 };
+use newer_unchecked::run::{
+    run_is_ancestor_newer_unchecked, run_merge_base_ids_newer_unchecked,
+    run_merge_base_newer_unchecked, run_walk_newer_unchecked,
+};
 use object_commands::{PositionRange, run_ids, run_objects};
 use question_commands::asking::run_ask;
 use question_commands::others::Nobody;
@@ -128,6 +132,8 @@ pub enum AskedGraph<'a> {
     /// The graph at this path, once it was checked, with newer commits on top, which are asked for;
     /// these alone, where there is no path.
     Newer(Option<&'a str>),
+    /// The same over a graph that is trusted, and not checked.
+    NewerUnchecked(Option<&'a str>),
 }
 
 /// A graph, and two commits that it is asked about.
@@ -274,12 +280,16 @@ impl<'a> Command<'a> {
     fn ask_unchecked(option: &str, path: &'a str, others: &'a [String]) -> Option<Command<'a>>
         ensures asked { (help version : List ℕ) → IfSome result (AskAfterName help version
             (codes "ask" ∷ option.now ∷ path.now ∷ map string_bytes others.now)) }
-        ensures other { IsNone result → ¬ ((option.now ≡ codes "--unchecked") × (others.now ≡ [])) }
+        ensures other { IsNone result → ¬ ((option.now ≡ codes "--unchecked")
+            × (path.now ≢ codes "--newer") × (others.now ≡ [])) }
     {
         match option {
-            "--unchecked" => match others {
-                [] => Some(Command::AskUnchecked { path }),
-                _ => None,
+            "--unchecked" => match path {
+                "--newer" => None,
+                _ => match others {
+                    [] => Some(Command::AskUnchecked { path }),
+                    _ => None,
+                },
             },
             _ => None,
         }
@@ -330,10 +340,50 @@ impl<'a> Group<'a> {
             (name ∷ path.now ∷ first.now ∷ map string_bytes others.now) }
     {
         match path {
-            "--unchecked" => Group::on(AskedGraph::Unchecked(first), others),
+            "--unchecked" => Group::unchecked(first, others),
             "--newer" if is_id(first) => Group::with(AskedGraph::Newer(None), first, others),
             "--newer" => Group::on(AskedGraph::Newer(Some(first)), others),
             _ => Group::with(AskedGraph::Checked(path), first, others),
+        }
+    }
+
+    /// What the words behind `--unchecked` say, if there are as many as it takes.
+    fn unchecked(first: &'a str, others: &'a [String]) -> Option<Group<'a>>
+        ensures some { IfSome result (λ group. (name : List ℕ)
+            → AreQuestionWords name group.graph
+            (group.first.now ∷ map string_bytes group.others.now)
+            (name ∷ codes "--unchecked" ∷ first.now ∷ map string_bytes others.now)) }
+        ensures others { IfSome result (λ group. group.others.now ≢ []) }
+        ensures none { IsNone result → (name : List ℕ) (graph : AskedGraph)
+            (one other : List ℕ) (more : List (List ℕ))
+            → ¬ AreQuestionWords name graph (one ∷ other ∷ more)
+            (name ∷ codes "--unchecked" ∷ first.now ∷ map string_bytes others.now) }
+    {
+        match first {
+            "--newer" => Group::newer_unchecked(others),
+            _ => Group::on(AskedGraph::Unchecked(first), others),
+        }
+    }
+
+    /// What the words behind `--unchecked --newer` say, if there are as many as it takes.
+    fn newer_unchecked(words: &'a [String]) -> Option<Group<'a>>
+        ensures some { IfSome result (λ group. (name : List ℕ)
+            → AreQuestionWords name group.graph
+            (group.first.now ∷ map string_bytes group.others.now)
+            (name ∷ codes "--unchecked" ∷ codes "--newer" ∷ map string_bytes words.now)) }
+        ensures others { IfSome result (λ group. group.others.now ≢ []) }
+        ensures none { IsNone result → (name : List ℕ) (graph : AskedGraph)
+            (one other : List ℕ) (more : List (List ℕ))
+            → ¬ AreQuestionWords name graph (one ∷ other ∷ more)
+            (name ∷ codes "--unchecked" ∷ codes "--newer" ∷ map string_bytes words.now) }
+    {
+        let [path, ids @ ..] = words else {
+            return None;
+        };
+        if is_id(path) {
+            Group::with(AskedGraph::NewerUnchecked(None), path, ids)
+        } else {
+            Group::on(AskedGraph::NewerUnchecked(Some(path)), ids)
         }
     }
 
@@ -469,6 +519,9 @@ impl Pair<'_> {
             AskedGraph::Newer(path) => {
                 run_is_ancestor_newer(alloc, folder, path, first, second, input, output)
             }
+            AskedGraph::NewerUnchecked(path) => {
+                run_is_ancestor_newer_unchecked(alloc, folder, path, first, second, input, output)
+            }
         }
     }
 
@@ -496,6 +549,9 @@ impl Pair<'_> {
             }
             AskedGraph::Newer(path) => {
                 run_walk_newer(alloc, folder, path, first, second, input, output)
+            }
+            AskedGraph::NewerUnchecked(path) => {
+                run_walk_newer_unchecked(alloc, folder, path, first, second, input, output)
             }
         }
     }
@@ -529,6 +585,9 @@ impl Group<'_> {
             AskedGraph::Newer(path) => {
                 run_merge_base_newer(alloc, folder, path, first, others, input, output)
             }
+            AskedGraph::NewerUnchecked(path) => {
+                run_merge_base_newer_unchecked(alloc, folder, path, first, others, input, output)
+            }
         }
     }
 
@@ -559,6 +618,11 @@ impl Group<'_> {
             }
             AskedGraph::Newer(path) => {
                 run_merge_base_ids_newer(alloc, folder, path, first, others, input, output)
+            }
+            AskedGraph::NewerUnchecked(path) => {
+                run_merge_base_ids_newer_unchecked(
+                    alloc, folder, path, first, others, input, output,
+                )
             }
         }
     }

@@ -17,15 +17,17 @@ use graph_folder::folder::Disk;
 use std::process::ExitCode;
 use std::{env, fs, io};
 
-const USAGE: &str = "usage: historytool is-ancestor [--unchecked|--newer] PATH HEX HEX \
-    | walk [--unchecked|--newer] PATH HEX HEX | merge-base [--unchecked|--newer] PATH HEX HEX.. \
-    | merge-base-ids [--unchecked|--newer] PATH HEX HEX.. | check PATH | show PATH \
+const USAGE: &str = "usage: historytool is-ancestor [--unchecked] [--newer] PATH HEX HEX \
+    | walk [--unchecked] [--newer] PATH HEX HEX \
+    | merge-base [--unchecked] [--newer] PATH HEX HEX.. \
+    | merge-base-ids [--unchecked] [--newer] PATH HEX HEX.. | check PATH | show PATH \
     | ask [--unchecked] PATH | ids PATH [FROM TO] | objects PATH [FROM TO] | write [PATH] \
     | merge PATH | --help | --version";
 
-const HELP: &str = "usage: historytool is-ancestor [--unchecked|--newer] PATH HEX HEX \
-    | walk [--unchecked|--newer] PATH HEX HEX | merge-base [--unchecked|--newer] PATH HEX HEX.. \
-    | merge-base-ids [--unchecked|--newer] PATH HEX HEX.. | check PATH | show PATH \
+const HELP: &str = "usage: historytool is-ancestor [--unchecked] [--newer] PATH HEX HEX \
+    | walk [--unchecked] [--newer] PATH HEX HEX \
+    | merge-base [--unchecked] [--newer] PATH HEX HEX.. \
+    | merge-base-ids [--unchecked] [--newer] PATH HEX HEX.. | check PATH | show PATH \
     | ask [--unchecked] PATH | ids PATH [FROM TO] | objects PATH [FROM TO] | write [PATH] \
     | merge PATH | --help | --version\n\
     \n\
@@ -38,7 +40,8 @@ const HELP: &str = "usage: historytool is-ancestor [--unchecked|--newer] PATH HE
     With --newer the commits that the graph lacks are read too: their ids are written,\n\
     a line each, and standard input has to give what git cat-file --batch answers. An\n\
     empty line ends the ids, and the answer follows. PATH may be left out then, and no\n\
-    id is taken for a path.\n\
+    id is taken for a path. --unchecked may stand before it: a graph that changes while\n\
+    commits are read may be refused then, and one can ask again.\n\
     \n\
     is-ancestor     whether the first commit is an ancestor of the second: yes or no\n\
     walk            the ids on a shortest walk along parents from the first commit\n\

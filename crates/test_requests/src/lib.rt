@@ -17,3 +17,5 @@ mod history;
 mod tables;
 #[cfg(test)]
 mod telling;
+#[cfg(test)]
+mod trees;

@@ -1,5 +1,6 @@
 //! Entries as `git cat-file --batch` wrote them, and other answers.
 
+use crate::trees::Row;
 use gix_hash_core::Kind;
 use object_stream::{EntryError, ObjectType};
 
@@ -10,7 +11,8 @@ pub const CHILD: &str = "1851fd55942b2606bbfe2d06f0bd8689ffbc9f59";
 
 pub const ROOT: &str = "8e4c3c127b3e277dca16cb82ce736eed58eee272";
 
-const HELLO: &str = "ce013625030ba8dba906f756967f9e9ca394464a";
+/// The id of a file.
+pub const HELLO: &str = "ce013625030ba8dba906f756967f9e9ca394464a";
 
 /// Two commits, a file, a directory, a tag, and a commit with an id of SHA-256.
 pub const TAKEN: &[Taken] = &[
@@ -119,3 +121,46 @@ pub const REFUSED: &[Refused] = &[
         EntryError::NoEntry,
     ),
 ];
+
+/// As many digits as no id has bytes.
+pub const NO_FILE: &str = "ce013625";
+
+/// A tree with the file `f`.
+pub const FIRST: Row = (
+    "10731d0b170b98481a00bdca161e874e0ab93377",
+    b"100644 f\0\xce\x01\x36\x25\x03\x0b\xa8\xdb\xa9\x06\xf7\x56\x96\x7f\x9e\
+      \x9c\xa3\x94\x46\x4a",
+);
+
+/// One with the file `g`.
+pub const SECOND: Row = (
+    "10ad8796cd0c9bcd6073d54a85348c69a04152d7",
+    b"100644 g\0\xce\x01\x36\x25\x03\x0b\xa8\xdb\xa9\x06\xf7\x56\x96\x7f\x9e\
+      \x9c\xa3\x94\x46\x4a",
+);
+
+/// A tree in which the first one is the directory `d`.
+pub const UPPER: Row = (
+    "610d5853f83d074babbf53f28eac09a52fe96976",
+    b"40000 d\0\x10\x73\x1d\x0b\x17\x0b\x98\x48\x1a\x00\xbd\xca\x16\x1e\x87\x4e\x0a\
+      \xb9\x33\x77",
+);
+
+/// One in which the second one is.
+pub const UPPER_NEW: Row = (
+    "aa00ecc725876de54d54d4229e774116fd2af06a",
+    b"40000 d\0\x10\xad\x87\x96\xcd\x0c\x9b\xcd\x60\x73\xd5\x4a\x85\x34\x8c\x69\xa0\
+      \x41\x52\xd7",
+);
+
+/// Contents that are no entry.
+pub const BAD: Row = ("f42941c78e101ff62b3e2f6e468c3e310f703259", b"x");
+
+/// The file `b`, and then the file `a`.
+pub const OUT_OF_ORDER: Row = (
+    "66efc072db3ad9e5c18b73639ec799df66b5a2aa",
+    b"100644 b\0\xce\x01\x36\x25\x03\x0b\xa8\xdb\xa9\x06\xf7\x56\x96\x7f\x9e\
+      \x9c\xa3\x94\x46\x4a\
+      100644 a\0\xce\x01\x36\x25\x03\x0b\xa8\xdb\xa9\x06\xf7\x56\x96\x7f\x9e\
+      \x9c\xa3\x94\x46\x4a",
+);

@@ -1,5 +1,6 @@
 """Checks questions about commits of a graph, or of none, and of newer ones, which are asked for: `is-ancestor`, `walk`, `merge-base` and
-`merge-base-ids` with `--newer`, beside Git, which hands the commits over; and over streams that are not what Git writes.
+`merge-base-ids` with `--newer`, and with `--unchecked` too, beside Git, which hands the commits over; over streams that are not what
+Git writes; and over a graph that is wrong, or changes meanwhile.
 """
 
 import os
@@ -27,6 +28,9 @@ AHEAD = 64
 
 WORDS = ("is-ancestor", "walk", "merge-base", "merge-base-ids")
 
+CHECKED, TRUSTED = ("--newer",), ("--unchecked", "--newer")
+"""The words behind that of the command, by which the graph is checked or not."""
+
 
 def check_kind(histories, results, new):
     """The checks of ids of one kind."""
@@ -39,20 +43,26 @@ def check_kind(histories, results, new):
         path = shutil.copy(repository.graph_path(), os.path.join(repository.folder, "graph of %d" % covered))
         graphs[path], before = ids, covered
     said = repository.words()
-    title = "%s, %%s --newer, " % repository.object_format
+    title = "%s, %%s, " % repository.object_format
     chance, reached = random.Random(31), Reached(said)
     pairs = [chance.sample(ids[-200:], 2) for _ in range(PAIRS)]
     groups = pairs + [chance.sample(ids[-100:], size) for size in (3, 5) for _ in range(GROUPS)]
-    for word in WORDS:
-        runs = [
-            (lambda path=path, asked=asked, word=word: ring(histories, repository, word, path, asked), Judge(repository, reached, word, known, asked))
-            for path, known in graphs.items()
-            for asked in (groups if word.startswith("merge") else pairs)
-        ]
-        check_runs(results, title % word + "beside Git", runs)
-    check_streams(histories, results, repository, title, reached, {path: known for path, known in graphs.items() if len(known) != COUNT})
-    check_objects(histories, results, repository, title, ids)
-    check_ahead(histories, results, title, ids)
+    for options in (CHECKED, TRUSTED):
+        for word in WORDS:
+            runs = [
+                (lambda begin=(word, *options), path=path, asked=asked: ring(histories, repository, begin, path, asked), judge_of)
+                for path, known in graphs.items()
+                for asked in (groups if word.startswith("merge") else pairs)
+                for judge_of in [Judge(repository, reached, word, known, asked)]
+            ]
+            check_runs(results, title % " ".join((word, *options)) + "beside Git", runs)
+        short = {path: known for path, known in graphs.items() if len(known) != COUNT}
+        check_streams(histories, results, repository, title, reached, options, short)
+        check_objects(histories, results, repository, title, options, ids)
+        check_ahead(histories, results, title, options, ids)
+    check_wrong(histories, results, repository, title, ids)
+    if repository.object_format == "sha256":
+        check_changing(histories, results, repository, title, ids)
 
 
 class Reached:
@@ -127,10 +137,11 @@ class Judge:
         return self.merge_base_ids(answer._replace(out=ids.encode()), ids.splitlines())
 
 
-def ring(histories, repository, word, path, ids):
-    """The answer of a command for which Git hands over the commits that it asks for, and the ids of these."""
+def ring(histories, repository, begin, path, ids, when_asked=None):
+    """The answer of a command, of which these words are the first, for which Git hands over the commits that it asks for, and the ids of
+    these. Before Git is asked for the first of them, this is done."""
     git = subprocess.Popen(("git", "cat-file", "--batch"), env=repository.surroundings, stdin=subprocess.PIPE, stdout=subprocess.PIPE)
-    command = (histories.path, word, "--newer", *([path] if path else []), *ids)
+    command = (histories.path, *begin, *([path] if path else []), *ids)
     tool = subprocess.Popen(command, env={}, stdin=git.stdout, stdout=subprocess.PIPE, stderr=subprocess.PIPE)
     git.stdout.close()
     guard, requests = threading.Timer(SECONDS, tool.kill), []
@@ -138,6 +149,8 @@ def ring(histories, repository, word, path, ids):
     for line in iter(tool.stdout.readline, b"\n"):
         if not line:
             break
+        if when_asked and not requests:
+            when_asked()
         requests.append(line.decode().rstrip("\n"))
         git.stdin.write(line)
         git.stdin.flush()
@@ -147,30 +160,30 @@ def ring(histories, repository, word, path, ids):
     guard.cancel()
     git.wait()
     if status != 0 and out:
-        LINES.add((word, out.decode().splitlines()[0]))
+        LINES.add((begin[0], out.decode().splitlines()[0]))
     return Answer(status, out, err), requests
 
 
-def over(histories, word, path, ids, stream):
-    """The requests and the answer of a command over a stream that is there already."""
-    answer = histories.run(word, "--newer", *([path] if path else []), *ids, input=stream)
+def over(histories, begin, path, ids, stream):
+    """The requests and the answer of a command, of which these words are the first, over a stream that is there already."""
+    answer = histories.run(*begin, *([path] if path else []), *ids, input=stream)
     asked, _, rest = (b"\n" + answer.out).partition(b"\n\n")
     return answer._replace(out=rest), asked.decode().split("\n")[1:]
 
 
-def check_streams(histories, results, repository, title, reached, graphs):
+def check_streams(histories, results, repository, title, reached, options, graphs):
     """Streams that are those of Git, and others: what is told of the first entry that is not right."""
-    said = reached.said
+    said, begin = reached.said, ("is-ancestor", *options)
     for path, known in graphs.items():
         tip = max(said, key=lambda commit: (len(reached.all([commit]).difference(known)), commit))
         ids = [tip, said[tip].parents[0]]
-        _, requests = ring(histories, repository, "is-ancestor", path, ids)
+        _, requests = ring(histories, repository, begin, path, ids)
         entries = [entry_of(repository, commit) for commit in requests]
         runs = []
         for entry, stream, line in streams(requests, entries, ids):
             right = Refused(requests, entry, line)
-            runs.append((lambda path=path, ids=ids, stream=stream: over(histories, "is-ancestor", path, ids, stream), right))
-        check_runs(results, title % "is-ancestor" + "streams over %d commits" % len(known), runs)
+            runs.append((lambda path=path, ids=ids, stream=stream: over(histories, begin, path, ids, stream), right))
+        check_runs(results, title % " ".join(begin) + "streams over %d commits" % len(known), runs)
 
 
 class Refused:
@@ -214,9 +227,9 @@ def entry_of(repository, commit):
     return repository.git("cat-file", "--batch", stdin=commit.encode() + b"\n")
 
 
-def check_objects(histories, results, repository, title, ids):
+def check_objects(histories, results, repository, title, options, ids):
     """Ids of no commit, and texts that are none; graphs that are not there; and an input that cannot be read."""
-    head, whole = ids[-1], os.path.join(repository.folder, "graph of %d" % COUNT)
+    head, whole, begin = ids[-1], os.path.join(repository.folder, "graph of %d" % COUNT), ("is-ancestor", *options)
     tag = b"object %s\ntype commit\ntag t\ntagger T <t@example.com> 0 +0000\n\nt\n" % head.encode()
     tag = repository.git("hash-object", "-w", "-t", "tag", "--stdin", stdin=tag).decode().strip()
     other = repository.git("hash-object", "-w", "-t", "commit", "--literally", "--stdin", stdin=b"no commit\n").decode().strip()
@@ -235,23 +248,70 @@ def check_objects(histories, results, repository, title, ids):
         ([head, head], path, "refused open 1", 1),
         ([head, head], os.path.join(repository.folder, "marks"), "refused open 5 layer 0 file 2", 1),
     ):
-        answer, _ = ring(histories, repository, "is-ancestor", place, asked)
-        results.check(title % "is-ancestor" + line, judge.exactly(status, line + "\n", "", answer))
+        answer, _ = ring(histories, repository, begin, place, asked)
+        results.check(title % " ".join(begin) + line, judge.exactly(status, line + "\n", "", answer))
     unread = os.open(repository.folder, os.O_RDONLY)
-    answer = histories.run("is-ancestor", "--newer", head, head, stdin=unread)
+    answer = histories.run(*begin, head, head, stdin=unread)
     os.close(unread)
-    results.check(title % "is-ancestor" + "no read succeeds", judge.exactly(1, head + "\n\nrefused read 2\n", "", answer))
+    results.check(title % " ".join(begin) + "no read succeeds", judge.exactly(1, head + "\n\nrefused read 2\n", "", answer))
 
 
-def check_ahead(histories, results, title, ids):
+def check_wrong(histories, results, repository, title, ids):
+    """A graph that is wrong where that does not show: it is refused where it is checked, and else trusted."""
+    path = os.path.join(repository.folder, "graph whose checksum is wrong")
+    with open(os.path.join(repository.folder, "graph of %d" % COVERED[0]), "rb") as file:
+        content = file.read()
+    with open(path, "wb") as file:
+        file.write(content[:-1] + bytes([content[-1] ^ 1]))
+    for options, line, status in ((CHECKED, "refused verify 4 layer 0 fault 1", 1), (TRUSTED, "yes", 0)):
+        answer, _ = ring(histories, repository, ("is-ancestor", *options), path, [ids[-1], ids[-1]])
+        results.check(title % " ".join(("is-ancestor", *options)) + "a wrong checksum", judge.exactly(status, line + "\n", "", answer))
+
+
+def check_changing(histories, results, repository, title, ids):
+    """A trusted graph whose file is written over, once the first commit was asked for. Its records lie far behind its ids, so that they
+    are read later. (A file that takes the place of another one is not seen: what was opened is read on.)"""
+    path, begin = os.path.join(repository.folder, "graph that changes"), ("walk", *TRUSTED)
+    before, after = (os.path.join(repository.folder, "graph of %d" % covered) for covered in COVERED[:2])
+    with open(before, "rb") as file:
+        spread = with_padding(file.read())
+    with open(after, "rb") as file:
+        content = file.read()
+    for what, now, line in (("a right one", content, "refused newer 10"), ("half of one", content[: len(content) // 2], "refused open 5 layer 0 file ")):
+        put(path, spread)
+        answer, asked = ring(histories, repository, begin, path, [ids[-1], ids[0]], lambda now=now: put(path, now))
+        told = answer.out.decode()
+        right = asked and answer.status == 1 and told.startswith(line) and told.count("\n") == 1 and not answer.err
+        results.check(title % " ".join(begin) + "the graph becomes " + what, None if right else "it is %r" % (answer,))
+
+
+def with_padding(content, size=1 << 20):
+    """A graph of one file with a chunk of so many bytes in front of the records of its commits. Its checksum is wrong."""
+    entries = [(content[at : at + 4], int.from_bytes(content[at + 4 : at + 12], "big")) for at in range(8, 8 + 12 * (content[6] + 1), 12)]
+    place = [name for name, _ in entries].index(b"CDAT")
+    begun = entries[place][1]
+    moved = [(name, offset + 12 + size * (at >= place)) for at, (name, offset) in enumerate(entries)]
+    table = b"".join(name + offset.to_bytes(8, "big") for name, offset in [*moved[:place], (b"PADD", begun + 12), *moved[place:]])
+    head = content[:6] + bytes([content[6] + 1]) + content[7:8] + table
+    return head + content[8 + 12 * len(entries) : begun] + bytes(size) + content[begun:]
+
+
+def put(path, content):
+    """Writes a file, over what stands in it."""
+    with open(path, "wb") as file:
+        file.write(content)
+
+
+def check_ahead(histories, results, title, options, ids):
     """No more commits are asked for ahead than both pipes have room for."""
-    command = (histories.path, "merge-base-ids", "--newer", *ids[:100])
+    begin = ("merge-base-ids", *options)
+    command = (histories.path, *begin, *ids[:100])
     tool = subprocess.Popen(command, env={}, stdin=subprocess.PIPE, stdout=subprocess.PIPE)
     asked = [tool.stdout.readline().decode().strip() for _ in range(AHEAD)]
     more, _, _ = select.select([tool.stdout], [], [], 0.3)
     complaint = None if asked == ids[:AHEAD] and not more else "it asks for %d and %s" % (len(set(asked)), "more" if more else "no more")
-    results.check(title % "merge-base-ids" + "64 commits are asked for ahead", complaint)
+    results.check(title % " ".join(begin) + "64 commits are asked for ahead", complaint)
     tool.stdin.close()
     out = tool.stdout.read().decode()
     tool.wait()
-    results.check(title % "merge-base-ids" + "the input ends at once", None if out == "\nrefused newer 1 id %s\n" % ids[0] else "it is %r" % out)
+    results.check(title % " ".join(begin) + "the input ends at once", None if out == "\nrefused newer 1 id %s\n" % ids[0] else "it is %r" % out)

@@ -8,8 +8,8 @@ use Rattle.historytool.proofs.command.Group.of.Goals as goal
 pub returns-in-text-3-clause-some : goal.returns-in-text-3-clause-some
 returns-in-text-3-clause-some c =
     let no_id : ¬ IsId c.args.first.now = λ is. let yes = c.is_id.ensures.1 is in let no = c.if-is_id.false in cc in
-    some_weaker c.on-in-text-3.result (λ group told name.
+    some_weaker c.on.result (λ group told name.
     let option = c.in-text-2.is in let ids = told.2 in
     subst (λ (asked : AskedGraph). AreQuestionWords name asked (group.first.now ∷ map string_bytes group.others.now)
     (name ∷ c.args.path.now ∷ c.args.first.now ∷ map string_bytes c.args.others.now)) (sym told.0) (cc, no_id))
-    c.on-in-text-3.ensures.some
+    c.on.ensures.some

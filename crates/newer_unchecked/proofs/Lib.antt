@@ -1,0 +1,3 @@
+pub mod WeakerLemmas
+pub mod PartsLemmas
+pub mod TellLemmas
