@@ -3,6 +3,7 @@
 Git writes; and over a graph that is wrong, or changes meanwhile.
 """
 
+import hashlib
 import os
 import random
 import select
@@ -61,8 +62,7 @@ def check_kind(histories, results, new):
         check_objects(histories, results, repository, title, options, ids)
         check_ahead(histories, results, title, options, ids)
     check_wrong(histories, results, repository, title, ids)
-    if repository.object_format == "sha256":
-        check_changing(histories, results, repository, title, ids)
+    check_changing(histories, results, repository, title, ids)
 
 
 class Reached:
@@ -270,13 +270,12 @@ def check_wrong(histories, results, repository, title, ids):
 
 def check_changing(histories, results, repository, title, ids):
     """A trusted graph whose file is written over, once the first commit was asked for. Its records lie far behind its ids, so that they
-    are read later. (A file that takes the place of another one is not seen: what was opened is read on.)"""
+    are read later, and no longer stand there then. (A file that takes the place of another one is not seen: what was opened is read on.)
+    """
     path, begin = os.path.join(repository.folder, "graph that changes"), ("walk", *TRUSTED)
-    before, after = (os.path.join(repository.folder, "graph of %d" % covered) for covered in COVERED[:2])
-    with open(before, "rb") as file:
-        spread = with_padding(file.read())
-    with open(after, "rb") as file:
+    with open(os.path.join(repository.folder, "graph of %d" % COVERED[0]), "rb") as file:
         content = file.read()
+    spread, content = (with_padding(content, repository.object_format, size) for size in (1 << 20, 1 << 10))
     for what, now, line in (("a right one", content, "refused newer 10"), ("half of one", content[: len(content) // 2], "refused open 5 layer 0 file ")):
         put(path, spread)
         answer, asked = ring(histories, repository, begin, path, [ids[-1], ids[0]], lambda now=now: put(path, now))
@@ -285,15 +284,16 @@ def check_changing(histories, results, repository, title, ids):
         results.check(title % " ".join(begin) + "the graph becomes " + what, None if right else "it is %r" % (answer,))
 
 
-def with_padding(content, size=1 << 20):
-    """A graph of one file with a chunk of so many bytes in front of the records of its commits. Its checksum is wrong."""
+def with_padding(content, kind, size):
+    """A graph of one file with a chunk of so many bytes in front of the records of its commits."""
     entries = [(content[at : at + 4], int.from_bytes(content[at + 4 : at + 12], "big")) for at in range(8, 8 + 12 * (content[6] + 1), 12)]
     place = [name for name, _ in entries].index(b"CDAT")
     begun = entries[place][1]
     moved = [(name, offset + 12 + size * (at >= place)) for at, (name, offset) in enumerate(entries)]
     table = b"".join(name + offset.to_bytes(8, "big") for name, offset in [*moved[:place], (b"PADD", begun + 12), *moved[place:]])
     head = content[:6] + bytes([content[6] + 1]) + content[7:8] + table
-    return head + content[8 + 12 * len(entries) : begun] + bytes(size) + content[begun:]
+    body = head + content[8 + 12 * len(entries) : begun] + bytes(size) + content[begun : entries[-1][1]]
+    return body + hashlib.new(kind, body).digest()
 
 
 def put(path, content):
