@@ -1,7 +1,7 @@
 //! Parts of files, as a source of commits.
 
 ghost use Rattle.std.proofs.Props.{props};
-ghost use Rattle.std.specs.Prelude.{◌≡◌, ◌≢◌, ℕ, List, IfErr, IfOk, Ok};
+ghost use Rattle.std.specs.Prelude.{◌≡◌, ◌≢◌, ◌⊎◌, ℕ, Err, IfErr, IfOk, List, Ok};
 ghost use Rattle.graph_parts.specs.OfTree.{AreOfTree};
 ghost use Rattle.graph_parts.specs.PartFiles.{commits_in_all};
 ghost use Rattle.graph_parts.specs.Shown.{AreGraphParts, files_of};
@@ -78,6 +78,7 @@ impl<'a, T: Folder> TrustedCommits<'a, T> {
     pub fn unless_failed<A: Drop>(&self, answer: Result<A, Unread>) -> Result<A, Unread>
         requires { IfErr answer (λ error. error ≢ Device) }
         ensures answer { IfOk result (λ found. answer ≡ Ok found) }
+        ensures error { IfErr result (λ error. (error ≡ Device) ⊎ (answer ≡ Err error)) }
         ensures failures { T.failure_count self.now.folder.now
             ≡ failures_after_reads result
             (⟦<TrustedCommits<'a, T> as CommitSource>⟧.known self.now).failures }

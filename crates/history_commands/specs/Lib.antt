@@ -1,3 +1,4 @@
 pub mod CheckedReplies
 pub mod AskedOnce
+pub mod SpelledQuestions
 pub mod Check

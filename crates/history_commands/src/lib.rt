@@ -3,8 +3,9 @@
 //! dates and filters.
 //!
 //! [`run`] has the commands: the contract of each says what it may write, and with which exit
-//! status. [`asker`] answers questions over one graph, and [`words`] reads ids. A refusal of a
-//! question is one that `graphtool ancestor` may give, in the same line.
+//! status. [`asker`] answers questions over one graph, and a [`SpelledQuestion`] is one that the
+//! words of a command ask. A refusal of a question is one that `graphtool ancestor` may give, in
+//! the same line.
 #![tactic(auto)]
 
 pub mod asker;
@@ -13,6 +14,8 @@ mod dates;
 mod found;
 pub mod opening;
 pub mod run;
-pub mod words;
+mod spelled;
+mod words;
 
 pub use check::{CheckRefusal, ChunksFound, check_chunks};
+pub use spelled::SpelledQuestion;

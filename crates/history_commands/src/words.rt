@@ -10,7 +10,7 @@ use graph_commands::refusal::Refusal;
 use std::alloc::Global;
 
 /// The ids that two texts spell. The error is that of the first text that spells none.
-pub fn read_two(first: &str, second: &str) -> Result<(ObjectId, ObjectId), IdError>
+pub(crate) fn read_two(first: &str, second: &str) -> Result<(ObjectId, ObjectId), IdError>
     ensures spelled { IfOk result (λ ids.
         AllZip SpellsId (first.now ∷ second.now ∷ []) (ids.0 ∷ ids.1 ∷ [])) }
     ensures refused { IfErr result (SpellNotAll (first.now ∷ second.now ∷ [])) }
@@ -22,7 +22,7 @@ pub fn read_two(first: &str, second: &str) -> Result<(ObjectId, ObjectId), IdErr
 
 /// The ids that a first text and some others spell. The error is `Id` for the first text that
 /// spells none, or `Walk`, where all of them are ids and an allocation failed.
-pub fn read_group(
+pub(crate) fn read_group(
     alloc: Global,
     first: &str,
     others: &[String],

@@ -5,8 +5,7 @@ ghost use Rattle.std.specs.Prelude.{IsTrue, codes, map, string_bytes};
 ghost use Rattle.historytool.specs.HistorytoolCommands.{AreQuestionWords, AskAfterName};
 ghost use Rattle.historytool.specs.HistorytoolCommands.{AskHistorytool, IsId, IsOption, TellsOf};
 ghost use Rattle.historytool.specs.HistorytoolCommands.{TellsOfItself};
-ghost use Rattle.answer_lines.specs.declared.reply.Form.TheVariants.{Whole, IdsAlone};
-ghost use Rattle.question_lines.specs.declared.question.Name.TheVariants as named;
+ghost use Rattle.history_commands.specs.SpelledQuestions.{spelled_name, spelled_texts};
 ghost use Rattle.graph_commands.specs.OpenerAnswer.{MayOpen};
 ghost use Rattle.graph_commands.specs.WrittenAnswer.{WritesAnswer};
 ghost use Rattle.object_commands.specs.AskedRange.{SpellsRange};
@@ -15,31 +14,23 @@ ghost use Rattle.question_commands.specs.Asking.{MayAsk, ask_status, ask_text};
 ghost use Rattle.historytool.specs.declared.command.AskedGraph.{AskedGraph};
 ghost use Rattle.historytool.specs.declared.command.Command.{Command};
 
+use answer_lines::reply::Form::{self, IdsAlone, Whole};
 use gix_hash_core::ObjectId;
 use graph_commands::line::{WriteFailed, write_line};
 use graph_commands::program::Run;
 use graph_commands::status::Status;
 use graph_folder::folder::Folder;
-use history_commands::run::{
-    run_check, run_is_ancestor, run_merge_base, run_merge_base_ids, run_walk,
-};
-use newer_commands::run::{
-    run_is_ancestor_newer, run_merge_base_ids_newer, run_merge_base_newer, run_walk_newer,
-};
-use newer_unchecked::run::{
-    run_is_ancestor_newer_unchecked, run_merge_base_ids_newer_unchecked,
-    run_merge_base_newer_unchecked, run_walk_newer_unchecked,
-};
+use history_commands::SpelledQuestion;
+use history_commands::run::{run_check, run_spelled};
+use newer_commands::run::run_spelled_newer;
+use newer_unchecked::run::run_spelled_newer_unchecked;
 use object_commands::{PositionRange, run_ids, run_objects};
 use question_commands::asking::run_ask;
 use question_commands::others::Nobody;
 use show_commands::run::run_show;
 use std::alloc::Global;
 use std::io::{Read, Write};
-use unchecked_commands::run::{
-    run_is_ancestor_unchecked, run_merge_base_ids_unchecked, run_merge_base_unchecked,
-    run_walk_unchecked,
-};
+use unchecked_commands::run::run_spelled_unchecked;
 use unchecked_questions::trusting::run_ask_unchecked;
 use write_commands::{run_merge, run_write};
 
@@ -454,10 +445,22 @@ impl Run for Command<'_> {
     ) -> Result<u8, WriteFailed> {
         match self {
             Command::Help { text } | Command::Version { text } => tell(output, text),
-            Command::IsAncestor { pair } => pair.is_ancestor(alloc, input, folder, output),
-            Command::Walk { pair } => pair.walk(alloc, input, folder, output),
-            Command::MergeBase { group } => group.bases(alloc, input, folder, output),
-            Command::MergeBaseIds { group } => group.base_ids(alloc, input, folder, output),
+            Command::IsAncestor { pair } => {
+                let asked = SpelledQuestion::IsAncestor(pair.first, pair.second);
+                ask_graph(pair.graph, alloc, input, folder, asked, Whole, output)
+            }
+            Command::Walk { pair } => {
+                let asked = SpelledQuestion::Walk(pair.first, pair.second);
+                ask_graph(pair.graph, alloc, input, folder, asked, Whole, output)
+            }
+            Command::MergeBase { group } => {
+                let asked = SpelledQuestion::MergeBase(group.first, group.others);
+                ask_graph(group.graph, alloc, input, folder, asked, Whole, output)
+            }
+            Command::MergeBaseIds { group } => {
+                let asked = SpelledQuestion::MergeBase(group.first, group.others);
+                ask_graph(group.graph, alloc, input, folder, asked, IdsAlone, output)
+            }
             Command::Check { path } => run_check(alloc, folder, path, output),
             Command::Show { path } => run_show(alloc, folder, path, output),
             Command::Ask { path } => answer_questions(alloc, input, folder, path, output),
@@ -491,139 +494,35 @@ fn answer_questions<R: Read, T: Folder, W: Write>(
     Ok(asked.status)
 }
 
-impl Pair<'_> {
-    /// Runs `is-ancestor`, and answers the exit status. `WriteFailed` comes where the output fails.
-    fn is_ancestor<R: Read, T: Folder, W: Write>(
-        self,
-        alloc: Global,
-        input: &mut R,
-        folder: &mut T,
-        output: &mut W,
-    ) -> Result<u8, WriteFailed>
-        ensures written { IfOk result (TellsOf self.entry.graph Whole named.IsAncestor
-            (self.entry.first.now ∷ self.entry.second.now ∷ [])
-            (R.remaining input.old) (R.remaining input.new)
-            (folder.new ≡ folder.old) (λ path. MayOpen (T.tree folder.old) path)
-            (T.failure_count folder.old) (T.failure_count folder.new)
-            (W.contents output.old) (W.contents output.new)) }
-        ensures tree { T.tree folder.new ≡ T.tree folder.old }
-    {
-        let (first, second) = (self.first, self.second);
-        match self.graph {
-            AskedGraph::Checked(path) => {
-                run_is_ancestor(alloc, folder, path, first, second, output)
-            }
-            AskedGraph::Unchecked(path) => {
-                run_is_ancestor_unchecked(alloc, folder, path, first, second, output)
-            }
-            AskedGraph::Newer(path) => {
-                run_is_ancestor_newer(alloc, folder, path, first, second, input, output)
-            }
-            AskedGraph::NewerUnchecked(path) => {
-                run_is_ancestor_newer_unchecked(alloc, folder, path, first, second, input, output)
-            }
+/// Asks a graph a question, and answers the exit status. `WriteFailed` comes where the output
+/// fails.
+fn ask_graph<R: Read, T: Folder, W: Write>(
+    graph: AskedGraph<'_>,
+    alloc: Global,
+    input: &mut R,
+    folder: &mut T,
+    question: SpelledQuestion<'_>,
+    form: Form,
+    output: &mut W,
+) -> Result<u8, WriteFailed>
+    ensures written { IfOk result (TellsOf graph.entry form
+        (spelled_name question.entry) (spelled_texts question.entry)
+        (R.remaining input.old) (R.remaining input.new)
+        (folder.new ≡ folder.old) (λ path. MayOpen (T.tree folder.old) path)
+        (T.failure_count folder.old) (T.failure_count folder.new)
+        (W.contents output.old) (W.contents output.new)) }
+    ensures tree { T.tree folder.new ≡ T.tree folder.old }
+{
+    match graph {
+        AskedGraph::Checked(path) => run_spelled(alloc, folder, path, question, form, output),
+        AskedGraph::Unchecked(path) => {
+            run_spelled_unchecked(alloc, folder, path, question, form, output)
         }
-    }
-
-    /// Runs `walk`, and answers the exit status. `WriteFailed` comes where the output fails.
-    fn walk<R: Read, T: Folder, W: Write>(
-        self,
-        alloc: Global,
-        input: &mut R,
-        folder: &mut T,
-        output: &mut W,
-    ) -> Result<u8, WriteFailed>
-        ensures written { IfOk result (TellsOf self.entry.graph Whole named.Walk
-            (self.entry.first.now ∷ self.entry.second.now ∷ [])
-            (R.remaining input.old) (R.remaining input.new)
-            (folder.new ≡ folder.old) (λ path. MayOpen (T.tree folder.old) path)
-            (T.failure_count folder.old) (T.failure_count folder.new)
-            (W.contents output.old) (W.contents output.new)) }
-        ensures tree { T.tree folder.new ≡ T.tree folder.old }
-    {
-        let (first, second) = (self.first, self.second);
-        match self.graph {
-            AskedGraph::Checked(path) => { run_walk(alloc, folder, path, first, second, output) }
-            AskedGraph::Unchecked(path) => {
-                run_walk_unchecked(alloc, folder, path, first, second, output)
-            }
-            AskedGraph::Newer(path) => {
-                run_walk_newer(alloc, folder, path, first, second, input, output)
-            }
-            AskedGraph::NewerUnchecked(path) => {
-                run_walk_newer_unchecked(alloc, folder, path, first, second, input, output)
-            }
+        AskedGraph::Newer(path) => {
+            run_spelled_newer(alloc, folder, path, question, form, input, output)
         }
-    }
-}
-
-impl Group<'_> {
-    /// Runs `merge-base`, and answers the exit status. `WriteFailed` comes where the output fails.
-    fn bases<R: Read, T: Folder, W: Write>(
-        self,
-        alloc: Global,
-        input: &mut R,
-        folder: &mut T,
-        output: &mut W,
-    ) -> Result<u8, WriteFailed>
-        ensures written { IfOk result (TellsOf self.entry.graph Whole named.MergeBase
-            (self.entry.first.now ∷ map string_bytes self.entry.others.now)
-            (R.remaining input.old) (R.remaining input.new)
-            (folder.new ≡ folder.old) (λ path. MayOpen (T.tree folder.old) path)
-            (T.failure_count folder.old) (T.failure_count folder.new)
-            (W.contents output.old) (W.contents output.new)) }
-        ensures tree { T.tree folder.new ≡ T.tree folder.old }
-    {
-        let (first, others) = (self.first, self.others);
-        match self.graph {
-            AskedGraph::Checked(path) => {
-                run_merge_base(alloc, folder, path, first, others, output)
-            }
-            AskedGraph::Unchecked(path) => {
-                run_merge_base_unchecked(alloc, folder, path, first, others, output)
-            }
-            AskedGraph::Newer(path) => {
-                run_merge_base_newer(alloc, folder, path, first, others, input, output)
-            }
-            AskedGraph::NewerUnchecked(path) => {
-                run_merge_base_newer_unchecked(alloc, folder, path, first, others, input, output)
-            }
-        }
-    }
-
-    /// Runs `merge-base-ids`, and answers the exit status. `WriteFailed` comes where the output
-    /// fails.
-    fn base_ids<R: Read, T: Folder, W: Write>(
-        self,
-        alloc: Global,
-        input: &mut R,
-        folder: &mut T,
-        output: &mut W,
-    ) -> Result<u8, WriteFailed>
-        ensures written { IfOk result (TellsOf self.entry.graph IdsAlone named.MergeBase
-            (self.entry.first.now ∷ map string_bytes self.entry.others.now)
-            (R.remaining input.old) (R.remaining input.new)
-            (folder.new ≡ folder.old) (λ path. MayOpen (T.tree folder.old) path)
-            (T.failure_count folder.old) (T.failure_count folder.new)
-            (W.contents output.old) (W.contents output.new)) }
-        ensures tree { T.tree folder.new ≡ T.tree folder.old }
-    {
-        let (first, others) = (self.first, self.others);
-        match self.graph {
-            AskedGraph::Checked(path) => {
-                run_merge_base_ids(alloc, folder, path, first, others, output)
-            }
-            AskedGraph::Unchecked(path) => {
-                run_merge_base_ids_unchecked(alloc, folder, path, first, others, output)
-            }
-            AskedGraph::Newer(path) => {
-                run_merge_base_ids_newer(alloc, folder, path, first, others, input, output)
-            }
-            AskedGraph::NewerUnchecked(path) => {
-                run_merge_base_ids_newer_unchecked(
-                    alloc, folder, path, first, others, input, output,
-                )
-            }
+        AskedGraph::NewerUnchecked(path) => {
+            run_spelled_newer_unchecked(alloc, folder, path, question, form, input, output)
         }
     }
 }

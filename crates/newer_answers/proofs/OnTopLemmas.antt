@@ -1,23 +1,24 @@
 -- What a search over a base and newer commits answers, of all that the base may say.
 use Rattle.std.proofs.Common.{◌≡◌, ℕ, ◌*◌, ◌<◌, ◌≤◌, List, [], ◌∷◌, All, Bool, IsTrue, IfNone, IfSome, IfOk, Option, None}
-use Rattle.std.proofs.Common.{Some, Result, Ok, Err, Vec, length, refl, subst}
+use Rattle.std.proofs.Common.{Some, Result, Ok, Err, Vec, ◌∙◌, length, refl, subst}
 use Rattle.std.specs.Global.{Global}
 use Rattle.std.proofs.lemmas.List.Elements.{All-cons, All-nil}
 use Rattle.graph_walks.specs.History.{Node}
 use Rattle.graph_walks.specs.Walks.{CountWalks, IsWalk, IsWalkBetween, Reaches}
 use Rattle.graph_format.specs.declared.Position.{Position}
 use Rattle.commit_search.specs.Positions.{numbers_of}
+use Rattle.commit_search.specs.Ranks.{FallsAlongParents}
 use Rattle.commit_search.specs.Source.{Told}
 use Rattle.commit_search.specs.WalkAnswer.{IsAnswer, IsAnyAnswer, IsShortestWalk}
 use Rattle.commit_search.specs.declared.Reached.{Reached}
 use Rattle.graph_bases.specs.Bases.{IsCommonAncestor}
-use Rattle.graph_bases.specs.Comparison.{IsComparisonIn}
+use Rattle.graph_bases.specs.Comparison.{IsComparisonBy, IsComparisonIn}
 use Rattle.graph_bases.specs.declared.bases.Comparison.{Comparison}
-use Rattle.newer_commits.specs.CommitsOnTop.{CommitsOnTop, end_of_top, nodes_on_top}
+use Rattle.newer_commits.specs.CommitsOnTop.{AreAfterParents, CommitsOnTop, end_of_top, nodes_on_top}
 use Rattle.newer_commits.specs.JoinedHistory.{AreNumberedOnTop, joined_with}
 use Rattle.newer_commits.proofs.HistoryLemmas.{joined_counts}
-use Rattle.newer_commits.specs.JoinedDates.{DatesOnTop}
-use Rattle.newer_answers.specs.AnswersByDates.{AreBasesByDates}
+use Rattle.newer_commits.specs.RanksOnTop.{ranking_on_top}
+use Rattle.newer_commits.proofs.RankLemmas.{falls_on_top}
 use Rattle.newer_answers.specs.AnswersOnTop.{AreBasesOnTop, IsToldOnTop, LeadsOnTop, NeverLeadsOnTop, all_history}
 use Rattle.newer_answers.proofs.KeptOnTopLemmas.{JoinedSays}
 use Rattle.newer_answers.proofs.PlaceOnTopLemmas.{all_below}
@@ -111,13 +112,32 @@ module _ (says : Told → Type 0) (layer : ℕ) (top : CommitsOnTop)
       → IfOk r (λ compared. (t : Told) → JoinedSays layer top says t
       → All (λ base. IsCommonAncestor t.history first others base.0) compared.bases.positions.items)
       → IfOk r (λ compared. (t : Told) → JoinedSays layer top says t → CountWalks t.history
-      → IsComparisonIn t.history first others compared) → IfOk r (AreBasesOnTop says top first others)
+      → IsComparisonIn t.history first others compared) → IfOk r (AreBasesOnTop says top None first others)
   bases_so first others (Ok compared) visits common exact = record {
     common = λ t said. common (joined_with layer top t) (t, said, refl);
     exact = λ t said counts. exact (joined_with layer top t) (t, said, refl) (all_count t said counts);
     visits = visits;
   }
   bases_so first others (Err e) visits common exact = tt
+
+-- the same of a search that goes by the dates of the base
+module _ (says : Told → Type 0) (layer : ℕ) (top : CommitsOnTop) (dates : List ℕ)
+    (many : (t : Told) → says t → length t.history ≡ top.below) (after : AreAfterParents top) where
+  pub ranked_so : {E : Type 0} (first : ℕ) (others : List ℕ) (r : Result Comparison E)
+      → IfOk r (λ compared. compared.bases.visits ≤ 3 * end_of_top top)
+      → IfOk r (λ compared. (t : Told) → JoinedSays layer top says t
+      → All (λ base. IsCommonAncestor t.history first others base.0) compared.bases.positions.items)
+      → IfOk r (λ compared. (t : Told) → JoinedSays layer top says t → FallsAlongParents t.history (ranking_on_top dates)
+      → IsComparisonBy t.history (ranking_on_top dates) first others compared)
+      → IfOk r (AreBasesOnTop says top (Some dates) first others)
+  ranked_so first others (Ok compared) visits common exact = record {
+    common = λ t said. common (joined_with layer top t) (t, said, refl);
+    exact = λ t said right.
+        exact (joined_with layer top t) (t, said, refl)
+        (falls_on_top t.history top dates (many t said) (right.0 ∙ many t said) after right.1);
+    visits = visits;
+  }
+  ranked_so first others (Err e) visits common exact = tt
 
 -- what is so of all that may be said is so of less
 pub leads_less : (says after : Told → Type 0) (top : CommitsOnTop) (from to : ℕ) (walk : List ℕ) → ((t : Told) → after t → says t)
@@ -127,19 +147,11 @@ leads_less says after top from to walk kept leads = record {
   shortest = λ t said counts. leads.shortest t (kept t said) counts;
 }
 
-pub bases_less : (says after : Told → Type 0) (top : CommitsOnTop) (first : ℕ) (others : List ℕ) (compared : Comparison)
-    → ((t : Told) → after t → says t) → AreBasesOnTop says top first others compared
-    → AreBasesOnTop after top first others compared
-bases_less says after top first others compared kept are = record {
+pub bases_less : (says after : Told → Type 0) (top : CommitsOnTop) (dates : Option (List ℕ)) (first : ℕ) (others : List ℕ)
+    (compared : Comparison) → ((t : Told) → after t → says t) → AreBasesOnTop says top dates first others compared
+    → AreBasesOnTop after top dates first others compared
+bases_less says after top dates first others compared kept are = record {
   common = λ t said. are.common t (kept t said);
-  exact = λ t said counts. are.exact t (kept t said) counts;
+  exact = λ t said right. are.exact t (kept t said) right;
   visits = are.visits;
-}
-
-pub dated_less : (says after : Told → Type 0) (top : CommitsOnTop) (dates : DatesOnTop) (first : ℕ) (others : List ℕ)
-    (compared : Comparison) → ((t : Told) → after t → says t) → AreBasesByDates says top dates first others compared
-    → AreBasesByDates after top dates first others compared
-dated_less says after top dates first others compared kept are = record {
-  common = λ t said. are.common t (kept t said);
-  exact = λ t said falls. are.exact t (kept t said) falls;
 }

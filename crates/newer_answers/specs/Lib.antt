@@ -1,3 +1,2 @@
 pub mod AnswersOnTop
-pub mod AnswersByDates
 pub mod FoundOnTop

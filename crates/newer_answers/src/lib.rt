@@ -9,12 +9,10 @@
 
 mod ancestor;
 mod bases;
-mod dated;
 mod ids;
 mod lookup;
 mod walk;
 
 pub use ancestor::is_ancestor;
 pub use bases::compare;
-pub use dated::compare_by_dates;
 pub use walk::ancestor_walk;

@@ -1,13 +1,18 @@
 -- What a search finds over a base in memory and newer commits is so of the history of all of them.
-use Rattle.std.proofs.Common.{◌≡◌, ℕ, List, [], ◌∷◌, Bool, Option, Some, None, Vec, inl, inr}
+use Rattle.std.proofs.Common.{◌≡◌, ℕ, List, [], ◌∷◌, Bool, Option, Some, None, Vec, IfSome, inl, inr, refl}
 use Rattle.std.specs.Prelude.{slice_get}
 use Rattle.std.specs.Global.{Global}
 use Rattle.std.specs.List.{AllZip}
 use Rattle.graph_walks.specs.Walks.{CountWalks}
+use Rattle.graph_walks.proofs.DateLemmas.{above_proper_ancestors}
+use Rattle.graph_chunks.specs.GraphStoredDates.{times_of}
+use Rattle.graph_history.specs.GraphComparison.{AreDatesOf}
 use Rattle.graph_format.specs.Layer.{Layer}
 use Rattle.graph_format.specs.StoredHistory.{history_of}
 use Rattle.gix_commitgraph.specs.Graph.{graph_ids}
 use Rattle.commit_search.specs.Positions.{numbers_of}
+use Rattle.commit_search.specs.Ranks.{FallsAlongParents, by_date}
+use Rattle.commit_search.proofs.RankLemmas.{dates_along}
 use Rattle.commit_search.specs.Source.{Told, told_of}
 use Rattle.answers.specs.FoundOf.{IsFoundOf, OfFirst, OfTwo, known_map, listed_comparison, listed_walk}
 use Rattle.answers.specs.declared.answer.Answer.{Answer}
@@ -21,16 +26,35 @@ use Rattle.question_lines.specs.declared.question.Question.{Question}
 use Rattle.question_lines.specs.declared.question.Question.TheVariants as question
 use Rattle.newer_commits.specs.CommitsOnTop.{CommitsOnTop}
 use Rattle.newer_commits.specs.FindingOnTop.{Finds, HasId}
-use Rattle.newer_answers.specs.AnswersOnTop.{IsComparedOnTop, IsToldOnTop, IsWalkOnTop}
+use Rattle.newer_answers.specs.AnswersOnTop.{AreRightNumbers, IsComparedOnTop, IsToldOnTop, IsWalkOnTop, ranking_over}
 use Rattle.newer_questions.specs.QuestionsOnTop.{IsReplyOnTop}
 use Rattle.newer_questions.proofs.OnBaseLemmas.{finds_as}
-use Rattle.newer_commands.specs.RepliesOnTop.{AreBasesOver, HasIdOver, IsReplyOver, IsToldOver, IsWalkOver}
+use Rattle.newer_commands.specs.RepliesOnTop.{AreBasesOver, HasIdOver, IsRankingOver, IsReplyOver, IsToldOver, IsWalkOver}
+use Rattle.newer_commands.specs.RepliesOnTop.{history_over}
 
--- The layers of the base, its lookup and its ids as a contract knows them, and what it says.
+-- the dates of a graph fall along all parents
+dates_fall : (layers : List Layer) (dates : List ℕ) → AreDatesOf layers dates
+    → FallsAlongParents (history_of layers) (by_date dates)
+dates_fall layers dates are =
+    dates_along (history_of layers) dates
+    (λ p q. above_proper_ancestors (history_of layers) (times_of layers) dates p q are.right)
+
+-- The numbers by which a search goes are right.
+module _ (layers : List Layer) (counts : CountWalks (history_of layers)) where
+  right_numbers : (dates : Option (List ℕ)) → IfSome dates (AreDatesOf layers) → AreRightNumbers dates (history_of layers)
+  right_numbers None given = counts
+  right_numbers (Some dates) given = (given.right.as_many, dates_fall layers dates given)
+
+  ranking_right : (top : CommitsOnTop) (dates : Option (List ℕ)) → IfSome dates (AreDatesOf layers)
+      → IsRankingOver layers top (ranking_over dates (history_over layers top))
+  ranking_right top None given = inl refl
+  ranking_right top (Some dates) given = inr (dates, given, refl)
+
+-- The layers of the base, its lookup and its ids as a contract knows them, what it says, and its dates, if some are given.
 module _ (layers : List Layer) (base : List ℕ → Option ℕ → Type 0) (has_id : ℕ → List ℕ → Type 0) (says : Told → Type 0)
     (top : CommitsOnTop) (scans : (id : List ℕ) (answer : Option ℕ) → base id answer → Scans layers id answer)
     (own : (p : ℕ) (id : List ℕ) → has_id p id → slice_get (graph_ids layers) p ≡ Some id)
-    (said : says (told_of layers)) (counts : CountWalks (history_of layers)) where
+    (said : says (told_of layers)) (counts : CountWalks (history_of layers)) (dates : Option (List ℕ)) (given : IfSome dates (AreDatesOf layers)) where
   id_over : (p : ℕ) (id : List ℕ) → HasId has_id top p id → HasIdOver layers top p id
   id_over p id (inl below) = inl (below.0, own p id below.1)
   id_over p id (inr newer) = inr newer
@@ -51,9 +75,13 @@ module _ (layers : List Layer) (base : List ℕ → Option ℕ → Type 0) (has_
   walk_over p q None so = so (told_of layers) said counts
 
   bases_over : (p : ℕ) (others : List ℕ) (known : IdComparison (Vec (List ℕ) Global))
-      → IsComparedOnTop says has_id top p others known → AreBasesOver layers top p others (listed_comparison known)
+      → IsComparedOnTop says has_id top dates p others known → AreBasesOver layers top p others (listed_comparison known)
   bases_over p others known so = (
-    so.0.exact (told_of layers) said counts,
+    (
+      ranking_over dates (history_over layers top),
+      ranking_right layers counts top dates given,
+      so.0.exact (told_of layers) said (right_numbers layers counts dates given),
+    ),
     ids_over (numbers_of known.comparison.bases.positions.items) known.base_ids.items so.1,
   )
 
@@ -80,17 +108,17 @@ module _ (layers : List Layer) (base : List ℕ → Option ℕ → Type 0) (has_
       found
 
   bases_found : (ids : List (List ℕ)) (answer : Answer (IdComparison (Vec (List ℕ) Global)))
-      → IsFoundOf (Finds base top) (OfFirst (IsComparedOnTop says has_id top)) ids answer
+      → IsFoundOf (Finds base top) (OfFirst (IsComparedOnTop says has_id top dates)) ids answer
       → IsFoundOf (Finds (Scans layers) top) (OfFirst (AreBasesOver layers top)) ids (known_map listed_comparison answer)
   bases_found ids answer found =
-      found_as (Finds base top) (Finds (Scans layers) top) same_found (OfFirst (IsComparedOnTop says has_id top))
+      found_as (Finds base top) (Finds (Scans layers) top) same_found (OfFirst (IsComparedOnTop says has_id top dates))
       (OfFirst (AreBasesOver layers top)) ids listed_comparison answer
       (λ positions known so.
-      all_so listed_comparison (IsComparedOnTop says has_id top) (AreBasesOver layers top) bases_over positions known so)
+      all_so listed_comparison (IsComparedOnTop says has_id top dates) (AreBasesOver layers top) bases_over positions known so)
       found
 
   -- what is answered to a question is so of the history
-  pub reply_over : (asked : Question) (answer : Reply (Vec (List ℕ) Global)) → IsReplyOnTop says base has_id top asked answer
+  pub reply_over : (asked : Question) (answer : Reply (Vec (List ℕ) Global)) → IsReplyOnTop says base has_id dates top asked answer
       → IsReplyOver layers top asked (listed_reply answer)
   reply_over (question.IsAncestor first second) (reply.Told told) found = told_found (first ∷ second ∷ []) told found
   reply_over (question.Walk first second) (reply.Walk walk) found = walk_found (first ∷ second ∷ []) walk found

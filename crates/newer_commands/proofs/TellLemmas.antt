@@ -1,5 +1,5 @@
 -- From what is found to what is told.
-use Rattle.std.proofs.Common.{◌≡◌, ◌≢◌, ℕ, List, [], Option, Some, None, inl, inr, refl, subst, sym, ap, ◌∙◌}
+use Rattle.std.proofs.Common.{◌≡◌, ◌≢◌, ℕ, List, [], Option, Some, None, inl, inr, refl, subst, sym, ap}
 use Rattle.std.proofs.KnownBytes.{Appends-trans}
 use Rattle.std.specs.Prelude.{Result, Ok, Err, IfOk}
 use Rattle.std.specs.Io.KnownBytes.{Appends}
@@ -26,15 +26,17 @@ use Rattle.newer_commands.specs.RepliesOnTop.{MayTellAtLast, MayTellOver}
 use Rattle.newer_commands.specs.declared.refusal.NewerRefusal.{NewerRefusal}
 use Rattle.newer_commands.specs.declared.refusal.NewerRefusal.TheVariants.{Common}
 
--- memory may run out at any time
+-- What is told of what may be told may be told too: there may be no memory to write a reply.
 pub tells_for : (kind : Kind) (layers : List Layer) (none top : CommitsOnTop) (asked : Question) (requests : List (List ℕ))
     (known : Option (List ℕ)) (found told : Verdict) → IsToldFor found told
     → MayTellAtLast kind layers none top asked requests known found
     → MayTellAtLast kind layers none top asked requests known told
-tells_for kind layers none top asked requests known found told (inl same) may =
+tells_for kind layers none top asked requests known (Ok reply) told (inl same) may =
     subst (MayTellAtLast kind layers none top asked requests known) (sym same) may
-tells_for kind layers none top asked requests known found told (inr short) may =
+tells_for kind layers none top asked requests known (Ok reply) told (inr short) may =
     subst (MayTellAtLast kind layers none top asked requests known) (sym short) tt
+tells_for kind layers none top asked requests known (Err refusal) told same may =
+    subst (MayTellAtLast kind layers none top asked requests known) (sym same) may
 
 -- What was asked for, and then what is told.
 pub tells_over : {E : Type 0} (result : Result ℕ E) (form : Form) (layers : List Layer) (known : Option (List ℕ))
@@ -115,17 +117,17 @@ never_lost kind layers base may_fail none top ids requests known error id scans 
     cc
 
 -- an empty line, and then a reply
-tells_reply : (form : Form) (found : ListedReply) (verdict : Verdict) (a b c : Option (List ℕ)) (status : ℕ)
-    → verdict ≡ Ok found → Appends a b newline → (told : Result ListedReply Refusal) → IsToldOf IsKnown found told
+tells_reply : (form : Form) (found : ListedReply) (a b c : Option (List ℕ)) (status : ℕ)
+    → Appends a b newline → (told : Result ListedReply Refusal) → IsToldOf IsKnown found told
     → Appends b c (response_text form told) → status ≡ response_status told
-    → WritesAnswer (λ told. newline ⧺ verdict_text form told) status_of_verdict (IsToldFor verdict) a c status
-tells_reply form found verdict a b c status is line (Ok reply) told text ends = (
+    → WritesAnswer (λ told. newline ⧺ verdict_text form told) status_of_verdict (IsToldFor (Ok found)) a c status
+tells_reply form found a b c status line (Ok reply) told text ends = (
   Ok reply,
-  inl (ap (λ (r : ListedReply). Ok r) told ∙ sym is),
+  inl (ap (λ (r : ListedReply). Ok r) told),
   Appends-trans a b c newline (reply_text form reply) line text,
   ends,
 )
-tells_reply form found verdict a b c status is line (Err refusal) told text ends = (
+tells_reply form found a b c status line (Err refusal) told text ends = (
   Err (Common refusal),
   inr (ap (λ (r : Refusal). Err (Common r)) told.0),
   Appends-trans a b c newline (refusal_text refusal ⧺ newline) line text,
@@ -138,7 +140,9 @@ pub reply_told : {E : Type 0} (result : Result ℕ E) (form : Form) (found : Lis
     → IfOk result (WritesAnswer (λ told. newline ⧺ verdict_text form told) status_of_verdict (IsToldFor verdict) a c)
 reply_told (Err failed) form found verdict a b c is line told = tt
 reply_told (Ok status) form found verdict a b c is line told =
-    tells_reply form found verdict a b c status is line told.0 told.1 told.2 told.3
+    subst
+    (λ (v : Verdict). WritesAnswer (λ told. newline ⧺ verdict_text form told) status_of_verdict (IsToldFor v) a c status)
+    (sym is) (tells_reply form found a b c status line told.0 told.1 told.2 told.3)
 
 -- an empty line, and then a refusal
 pub refusal_told : {E : Type 0} (result : Result ℕ E) (form : Form) (refusal : NewerRefusal) (verdict : Verdict)
@@ -146,8 +150,12 @@ pub refusal_told : {E : Type 0} (result : Result ℕ E) (form : Form) (refusal :
     → IfOk result (WritesAnswer (verdict_text form) status_of_verdict (λ told. told ≡ Err refusal) b c)
     → IfOk result (WritesAnswer (λ told. newline ⧺ verdict_text form told) status_of_verdict (IsToldFor verdict) a c)
 refusal_told (Err failed) form refusal verdict a b c is line told = tt
-refusal_told (Ok status) form refusal verdict a b c is line told =
-    (told.0, inl (told.1 ∙ sym is), Appends-trans a b c newline (verdict_text form told.0) line told.2, told.3)
+refusal_told (Ok status) form refusal verdict a b c is line told = (
+  told.0,
+  subst (λ (v : Verdict). IsToldFor v told.0) (sym is) told.1,
+  Appends-trans a b c newline (verdict_text form told.0) line told.2,
+  told.3,
+)
 
 -- the same where nothing was asked for
 pub told_at_once : {E : Type 0} (result : Result ℕ E) (form : Form) (refusal : Refusal) (a b c : Option (List ℕ))

@@ -44,9 +44,10 @@ abbrev pub listed_verdict : Result (Reply (Vec (List ℕ) Global)) NewerRefusal 
 listed_verdict (Ok reply) = Ok (listed_reply reply)
 listed_verdict (Err refusal) = Err refusal
 
--- what is told is what was found, or that there is no memory to write it
+-- what is told is what was found; of a reply also that there is no memory to write it
 abbrev pub IsToldFor : Verdict → Verdict → Type 0
-IsToldFor found told = (told ≡ found) ⊎ (told ≡ Err (Common Walk))
+IsToldFor (Ok reply) told = (told ≡ Ok reply) ⊎ (told ≡ Err (Common Walk))
+IsToldFor (Err refusal) told = told ≡ Err refusal
 
 -- what is told of an error; that of the base is handed on. There is none where a write failed, nor on a commit that is lost
 abbrev pub IsVerdictOf : {E : Type 0} → CompleteError E → Result Verdict E → Type 0

@@ -9,8 +9,10 @@ use Rattle.graph_format.specs.Layer.{Layer}
 use Rattle.graph_format.specs.StoredHistory.{history_of}
 use Rattle.gix_commitgraph.specs.Graph.{graph_ids, total}
 use Rattle.commit_search.specs.Positions.{numbers_of}
+use Rattle.commit_search.specs.Ranks.{Ranking, by_generation}
 use Rattle.commit_search.specs.WalkAnswer.{IsShortestWalk}
-use Rattle.graph_bases.specs.Comparison.{IsComparisonIn}
+use Rattle.graph_bases.specs.Comparison.{IsComparisonBy}
+use Rattle.graph_history.specs.GraphComparison.{AreDatesOf}
 use Rattle.answers.specs.FoundOf.{IsFoundOf, OfFirst, OfTwo}
 use Rattle.answers.specs.declared.comparison.IdComparison.{IdComparison}
 use Rattle.answer_lines.specs.Replies.{ListedReply, missing_of}
@@ -23,6 +25,7 @@ use Rattle.question_lines.specs.declared.question.Question.TheVariants as questi
 use Rattle.newer_commits.specs.CommitsOnTop.{CommitsOnTop, nodes_on_top}
 use Rattle.newer_commits.specs.FindingOnTop.{Finds, HasId}
 use Rattle.newer_commits.specs.JoinedHistory.{joined_history}
+use Rattle.newer_commits.specs.RanksOnTop.{ranking_on_top}
 use Rattle.commit_requests.specs.Completion.{IsCompleteRefusal}
 use Rattle.commit_requests.specs.declared.error.CompleteError.{CompleteError}
 use Rattle.commit_requests.specs.declared.error.CompleteError.TheVariants as completion
@@ -50,10 +53,18 @@ IsWalkOver layers top first second (Some ids) =
     (walk : List ℕ) × IsShortestWalk (history_over layers top) first second walk × AllZip (HasIdOver layers top) walk ids
 IsWalkOver layers top first second None = ¬ Reaches (history_over layers top) first second
 
+-- a search may order all commits by these ranks: the generation numbers; or the corrected dates of the graph, and the newer commits
+-- before all of its own
+abbrev pub IsRankingOver : List Layer → CommitsOnTop → Ranking → Type 0
+IsRankingOver layers top ranking =
+    (ranking ≡ by_generation (history_over layers top))
+    ⊎ ((dates : List ℕ) × AreDatesOf layers dates × (ranking ≡ ranking_on_top dates))
+
 -- how the first commit compares with the others, with the ids of the merge bases
 abbrev pub AreBasesOver : List Layer → CommitsOnTop → ℕ → List ℕ → IdComparison (List (List ℕ)) → Type 0
 AreBasesOver layers top first others known =
-    IsComparisonIn (history_over layers top) first others known.comparison
+    ((ranking : Ranking) × IsRankingOver layers top ranking
+    × IsComparisonBy (history_over layers top) ranking first others known.comparison)
     × AllZip (HasIdOver layers top) (numbers_of known.comparison.bases.positions.items) known.base_ids
 
 -- this is the answer to a question about commits that are all there

@@ -1,12 +1,12 @@
 //! The commands, over a folder, a reader and a writer.
 
-ghost use Rattle.std.specs.Prelude.{◌≡◌, ◌∷◌, [], IfOk, map, option_map, string_bytes};
+ghost use Rattle.std.specs.Prelude.{◌≡◌, IfOk, IfSome, length, option_copied, option_map};
 ghost use Rattle.std.specs.Io.KnownBytes.{Keeps};
-ghost use Rattle.answer_lines.specs.declared.reply.Form.TheVariants.{Whole, IdsAlone};
 ghost use Rattle.graph_commands.specs.OpenerAnswer.{MayOpenIn};
 ghost use Rattle.graph_commands.specs.WrittenAnswer.{WritesAnswer};
+ghost use Rattle.graph_history.specs.GraphComparison.{AreDatesOf};
 ghost use Rattle.history_commands.specs.CheckedReplies.{IsSearched};
-ghost use Rattle.question_lines.specs.declared.question.Name.TheVariants as named;
+ghost use Rattle.history_commands.specs.SpelledQuestions.{spelled_name, spelled_texts};
 ghost use Rattle.newer_commands.specs.AskedNewer.{MayAskNewer, MayReplyNewer};
 ghost use Rattle.newer_commands.specs.AskedReply.{asked_status, asked_text};
 ghost use Rattle.newer_commands.specs.RepliesOnTop.{MayTellOver};
@@ -16,38 +16,38 @@ use crate::ids::kind_of_first;
 use crate::verdict::refuse_at_once;
 use answer_lines::reply::Form;
 use graph_ancestors::InMemory;
+use graph_chunks::dates::CorrectedDates;
 use graph_commands::line::WriteFailed;
 use graph_commands::refusal::Refusal;
 use graph_folder::folder::Folder;
 use graph_history::Checked;
+use history_commands::SpelledQuestion;
 use history_commands::opening::open_checked;
-use history_commands::words::{read_group, read_two};
-use newer_commits::BaseOrNone;
+use newer_commits::{BaseOrNone, RanksOnTop};
 use question_lines::question::Question;
 use std::alloc::Global;
 use std::io::{Read, Write};
 
-/// Tells whether the commit with the first id is an ancestor of the one with the second, or the
-/// same, as `run_is_ancestor` of `history_commands` does, also for commits that the graph at the
-/// path lacks; without a path no graph is opened, and each commit is such a one. Both ids are given
-/// in hexadecimal digits of either case.
+/// Answers a question whose ids are texts, as `run_spelled` of `history_commands` does, also about
+/// commits that the graph at the path lacks; without a path no graph is opened, and each commit is
+/// such a one. The position of a newer commit is one after those of the graph.
 ///
 /// It writes the id of each commit that is lacking as a line, and reads its entry, as
 /// `git cat-file --batch` writes it, up to 64 of them together. An empty line ends what is asked
-/// for. Then it writes one line: the answer, or which id is that of no object, or why the question
-/// is refused. A text that is no id opens and asks for nothing. The answer is the exit status.
-/// `WriteFailed` comes where the writer fails.
-pub fn run_is_ancestor_newer<T: Folder, R: Read, W: Write>(
+/// for. Then it writes the lines of the answer; or which id is that of no object; or why the
+/// question is refused. A text that is no id opens and asks for nothing. The answer is the exit
+/// status. `WriteFailed` comes where the writer fails.
+pub fn run_spelled_newer<T: Folder, R: Read, W: Write>(
     alloc: Global,
     folder: &mut T,
     path: Option<&str>,
-    first: &str,
-    second: &str,
+    question: SpelledQuestion<'_>,
+    form: Form,
     reader: &mut R,
     writer: &mut W,
 ) -> Result<u8, WriteFailed>
-    ensures written { IfOk result (WritesAnswer (asked_text Whole) asked_status
-        (MayAskNewer named.IsAncestor (first.now ∷ second.now ∷ [])
+    ensures written { IfOk result (WritesAnswer (asked_text form) asked_status
+        (MayAskNewer (spelled_name question.entry) (spelled_texts question.entry)
         ((folder.new ≡ folder.old) × Keeps (R.remaining reader.old) (R.remaining reader.new))
         (MayReplyNewer (option_map (λ p. p.now) path.entry) (folder.new ≡ folder.old)
         (MayOpenIn T.Folder folder.old folder.new)
@@ -55,116 +55,8 @@ pub fn run_is_ancestor_newer<T: Folder, R: Read, W: Write>(
         (W.contents writer.old) (W.contents writer.new)) }
     ensures tree { T.tree folder.new ≡ T.tree folder.old }
 {
-    match read_two(first, second) {
-        Ok(ids) => {
-            let question = Question::IsAncestor(ids.0, ids.1);
-            run_question_newer(alloc, folder, path, &question, Form::Whole, reader, writer)
-        }
-        Err(error) => refuse_at_once(Refusal::Id(error), writer),
-    }
-}
-
-/// Looks for a shortest walk along parents from the commit with the first id to the one with the
-/// second, as `run_walk` of `history_commands` does, also for commits that the graph at the path
-/// lacks: it asks for them as [`run_is_ancestor_newer`] does.
-///
-/// After the empty line it writes the ids on the walk, a line for each, or `none`; or which id is
-/// that of no object; or why the question is refused. The answer is the exit status. `WriteFailed`
-/// comes where the writer fails.
-pub fn run_walk_newer<T: Folder, R: Read, W: Write>(
-    alloc: Global,
-    folder: &mut T,
-    path: Option<&str>,
-    first: &str,
-    second: &str,
-    reader: &mut R,
-    writer: &mut W,
-) -> Result<u8, WriteFailed>
-    ensures written { IfOk result (WritesAnswer (asked_text Whole) asked_status
-        (MayAskNewer named.Walk (first.now ∷ second.now ∷ [])
-        ((folder.new ≡ folder.old) × Keeps (R.remaining reader.old) (R.remaining reader.new))
-        (MayReplyNewer (option_map (λ p. p.now) path.entry) (folder.new ≡ folder.old)
-        (MayOpenIn T.Folder folder.old folder.new)
-        (R.remaining reader.old) (R.remaining reader.new)))
-        (W.contents writer.old) (W.contents writer.new)) }
-    ensures tree { T.tree folder.new ≡ T.tree folder.old }
-{
-    match read_two(first, second) {
-        Ok(ids) => {
-            let question = Question::Walk(ids.0, ids.1);
-            run_question_newer(alloc, folder, path, &question, Form::Whole, reader, writer)
-        }
-        Err(error) => refuse_at_once(Refusal::Id(error), writer),
-    }
-}
-
-/// Compares the commit with the first id with those with the others, as `run_merge_base` of
-/// `history_commands` does, also for commits that the graph at the path lacks: it asks for them as
-/// [`run_is_ancestor_newer`] does. The position of a newer commit is one after those of the graph.
-///
-/// After the empty line it writes the lines of `run_merge_base`; or which id is that of no object;
-/// or why the question is refused. The answer is the exit status. `WriteFailed` comes where the
-/// writer fails.
-pub fn run_merge_base_newer<T: Folder, R: Read, W: Write>(
-    alloc: Global,
-    folder: &mut T,
-    path: Option<&str>,
-    first: &str,
-    others: &[String],
-    reader: &mut R,
-    writer: &mut W,
-) -> Result<u8, WriteFailed>
-    ensures written { IfOk result (WritesAnswer (asked_text Whole) asked_status
-        (MayAskNewer named.MergeBase (first.now ∷ map string_bytes others.now)
-        ((folder.new ≡ folder.old) × Keeps (R.remaining reader.old) (R.remaining reader.new))
-        (MayReplyNewer (option_map (λ p. p.now) path.entry) (folder.new ≡ folder.old)
-        (MayOpenIn T.Folder folder.old folder.new)
-        (R.remaining reader.old) (R.remaining reader.new)))
-        (W.contents writer.old) (W.contents writer.new)) }
-    ensures tree { T.tree folder.new ≡ T.tree folder.old }
-{
-    match read_group(alloc, first, others) {
-        Ok(ids) => {
-            let question = Question::MergeBase(ids.0, ids.1);
-            run_question_newer(alloc, folder, path, &question, Form::Whole, reader, writer)
-        }
-        Err(refusal) => refuse_at_once(refusal, writer),
-    }
-}
-
-/// Compares commits as [`run_merge_base_newer`] does, and writes the ids of the merge bases alone,
-/// a line for each, or `none`. The answer is the exit status, which is that of
-/// [`run_merge_base_newer`]. `WriteFailed` comes where the writer fails.
-pub fn run_merge_base_ids_newer<T: Folder, R: Read, W: Write>(
-    alloc: Global,
-    folder: &mut T,
-    path: Option<&str>,
-    first: &str,
-    others: &[String],
-    reader: &mut R,
-    writer: &mut W,
-) -> Result<u8, WriteFailed>
-    ensures written { IfOk result (WritesAnswer (asked_text IdsAlone) asked_status
-        (MayAskNewer named.MergeBase (first.now ∷ map string_bytes others.now)
-        ((folder.new ≡ folder.old) × Keeps (R.remaining reader.old) (R.remaining reader.new))
-        (MayReplyNewer (option_map (λ p. p.now) path.entry) (folder.new ≡ folder.old)
-        (MayOpenIn T.Folder folder.old folder.new)
-        (R.remaining reader.old) (R.remaining reader.new)))
-        (W.contents writer.old) (W.contents writer.new)) }
-    ensures tree { T.tree folder.new ≡ T.tree folder.old }
-{
-    match read_group(alloc, first, others) {
-        Ok(ids) => {
-            run_question_newer(
-                alloc,
-                folder,
-                path,
-                &Question::MergeBase(ids.0, ids.1),
-                Form::IdsAlone,
-                reader,
-                writer,
-            )
-        }
+    match question.read(alloc) {
+        Ok(question) => run_question_newer(alloc, folder, path, &question, form, reader, writer),
         Err(refusal) => refuse_at_once(refusal, writer),
     }
 }
@@ -193,7 +85,7 @@ pub fn run_question_newer<T: Folder, R: Read, W: Write>(
     let Some(path) = path else {
         let kind = kind_of_first(question);
         let none = BaseOrNone { base: None };
-        return answer_over(alloc, kind, none, question, form, reader, writer);
+        return answer_over(alloc, kind, none, None, question, form, reader, writer);
     };
     match open_checked(alloc, folder, path) {
         Ok(graph) => answer_in(alloc, &graph.as_checked(), question, form, reader, writer),
@@ -217,18 +109,42 @@ fn answer_in<R: Read, W: Write>(
         (W.contents writer.old) (W.contents writer.new)) }
 {
     // The contract of `num_commits` says that the graph is right.
-    let _commits = checked.num_commits();
+    let commits = checked.num_commits();
     let graph = checked.graph();
     let base = BaseOrNone {
         base: Some(InMemory::new(graph)),
     };
+    let dates = dates_for(alloc, checked, question);
+    let ranks = ranks_over(dates.as_ref(), commits);
     answer_over(
         alloc,
         graph.object_hash(),
         base,
+        ranks,
         question,
         form,
         reader,
         writer,
     )
+}
+
+/// The corrected dates of a graph, where it has right ones, and the question asks for merge bases.
+/// Where memory runs out, none are known.
+fn dates_for(alloc: Global, checked: &Checked<'_>, question: &Question) -> Option<CorrectedDates>
+    ensures { IfSome result (AreDatesOf checked.now.layers) }
+{
+    match question {
+        Question::MergeBase(_, _) => checked.dates(alloc).ok()?,
+        _ => None,
+    }
+}
+
+/// The ranks by which merge bases are searched for over a graph with these dates, of which there
+/// are so many.
+fn ranks_over(dates: Option<&CorrectedDates>, commits: u32) -> Option<RanksOnTop<'_>>
+    requires { IfSome (option_copied dates) (λ known. commits ≡ length known) }
+    ensures { result ≡ option_copied dates.entry }
+{
+    let dates = dates?;
+    Some(RanksOnTop::new(dates, commits))
 }

@@ -5,4 +5,4 @@ pub mod SourceLemmas
 pub mod ContentsLemmas
 pub mod FoundLemmas
 pub mod AddLemmas
-pub mod DateLemmas
+pub mod RankLemmas

@@ -8,7 +8,6 @@ use Rattle.graph_walks.specs.Counts.{greatest}
 use Rattle.graph_walks.specs.History.{generation_at}
 use Rattle.commit_objects.specs.CommitContents.{Said}
 use Rattle.commit_objects.specs.Object.{object_id_of}
-use Rattle.commit_objects.specs.Time.{newer_time}
 use Rattle.commit_search.specs.Source.{Told}
 use Rattle.newer_commits.specs.CommitsOnTop.{CommitsOnTop, newer_commit, end_of_top, nodes_on_top}
 use Rattle.newer_commits.specs.FindingOnTop.{Finds}
@@ -31,13 +30,12 @@ pub record AreFoundParents (base : List ℕ → Option ℕ → Type 0) (says : T
   pub number : (t : Told) → says t
       → found.greatest ≡ greatest (map (generation_at (joined_history t.history (nodes_on_top top))) places)
 
--- The contents are a commit that is not there, with this id and this time, and its parents are found so.
+-- The contents are a commit that is not there, with this id, and its parents are found so.
 pub record IsPrepared (kind : Kind) (base : List ℕ → Option ℕ → Type 0) (says : Told → Type 0) (top : CommitsOnTop)
     (contents : List ℕ) (prepared : Prepared) : Type 0 where
   pub said : Said
   pub absent : IsNewCommit kind base top contents said
   pub id : prepared.id ≡ object_id_of kind contents
-  pub time : prepared.time ≡ newer_time said.rest
   pub found : AreFoundParents base says top said.parents prepared.found
 
 -- this parent, which has this number, is not there, or a read failed

@@ -8,4 +8,4 @@ pub mod FoundParents
 pub mod KeptCommits
 pub mod SameKnowledge
 pub mod SameLent
-pub mod JoinedDates
+pub mod RanksOnTop

@@ -1,12 +1,11 @@
 //! Adding a commit on top of a base.
 
 ghost use Rattle.std.specs.Prelude.{◌≡◌, ◌+◌, ◌<◌, ◌≤◌, ◌++◌, ◌∷◌, ◌^◌, [], ℕ, List, IfErr, IfOk};
-ghost use Rattle.std.specs.Prelude.{None, OnErr, OnOk, IsSomeAnd};
+ghost use Rattle.std.specs.Prelude.{None, OnErr};
 ghost use Rattle.std.specs.Prelude.{length};
 ghost use Rattle.commit_search.specs.Source.{Told};
 ghost use Rattle.newer_commits.specs.Adding.{AddsCommit, IsAddRefusal};
 ghost use Rattle.newer_commits.specs.FindingOnTop.{Finds};
-ghost use Rattle.newer_commits.specs.CommitsOnTop.{newer_commit};
 ghost use Rattle.newer_commits.specs.FoundParents.{AreFoundParents, IsOneParentRefusal};
 ghost use Rattle.newer_commits.specs.FoundParents.{IsParentRefusal, IsPrepared, IsPushRefusal};
 ghost use Rattle.newer_commits.specs.FoundParents.{IsPushed};
@@ -51,11 +50,7 @@ impl<S: Base> Newer<S> {
     /// # Errors
     ///
     /// `Unreadable`, `Known`, `Parent` and `Source`, as in [`Newer::add`].
-    pub(crate) fn prepare(
-        &mut self,
-        alloc: Global,
-        contents: &[u8],
-    ) -> Result<Prepared, AddError<S::Error>>
+    fn prepare(&mut self, alloc: Global, contents: &[u8]) -> Result<Prepared, AddError<S::Error>>
         ensures known { S.known self.new.base ≡ S.known self.old.base }
         ensures kept { (t : Told) → S.says self.new.base t → S.says self.old.base t }
         ensures kind { self.new.kind ≡ self.old.kind }
@@ -76,9 +71,8 @@ impl<S: Base> Newer<S> {
             Ok(Some(pos)) => return Err(AddError::Known(pos)),
             Err(error) => return Err(AddError::Source(error)),
         }
-        let time = commit.newer_time();
         match self.find_parents(alloc, commit.parents(), contents.len()) {
-            Ok(found) => Ok(Prepared { id, time, found }),
+            Ok(found) => Ok(Prepared { id, found }),
             Err(error) => Err(error),
         }
     }
@@ -167,11 +161,7 @@ impl<S: Base> Newer<S> {
     /// # Errors
     ///
     /// `Full`, or `OutOfMemory` where an allocation failed.
-    pub(crate) fn push(
-        &mut self,
-        id: ObjectId,
-        found: FoundParents,
-    ) -> Result<Position, AddError<S::Error>>
+    fn push(&mut self, id: ObjectId, found: FoundParents) -> Result<Position, AddError<S::Error>>
         requires absent { Finds (S.finds (S.facts self.old.base)) self.old.commits id None }
         requires found { (ids : List (List ℕ)) × AreFoundParents
             (S.finds (S.facts self.old.base)) (S.says self.old.base) self.old.commits ids found }
@@ -181,9 +171,6 @@ impl<S: Base> Newer<S> {
             (S.finds (S.facts self.old.base)) (S.says self.old.base) self.old.commits ids found
             → IsPushed (S.finds (S.facts self.old.base)) self.old.commits self.new.commits ids id
             pos.0) }
-        ensures parents { OnOk result (IsSomeAnd found.positions (λ parents.
-            (generation : ℕ) × (self.new.commits.commits ≡ self.old.commits.commits
-            ++ newer_commit id generation parents.items ∷ []))) }
         ensures refused { IfErr result (IsPushRefusal self.old.commits found.count) }
         ensures same { OnErr result (self.new.commits ≡ self.old.commits) }
     {

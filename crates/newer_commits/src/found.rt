@@ -19,8 +19,6 @@ pub(crate) struct FoundParents {
 #[derive(Drop)]
 pub(crate) struct Prepared {
     pub(crate) id: ObjectId,
-    /// The committer's time, as Git from 2.41 on reads it.
-    pub(crate) time: u64,
     /// What is found of its parents.
     pub(crate) found: FoundParents,
 }

@@ -9,8 +9,8 @@ ghost use Rattle.graph_objects.specs.CommitWalks.{CommitsLead};
 ghost use Rattle.newer_commits.specs.Adding.{AddsCommit};
 ghost use Rattle.newer_commits.specs.CommitsOf.{AnswersOnce, AreCommitsOf, newer_id};
 ghost use Rattle.newer_commits.specs.CommitsOnTop.{AreAfterParents, CommitsOnTop, nodes_on_top};
-ghost use Rattle.newer_commits.specs.JoinedDates.{DatesOnTop, FallOnTop, all_dates};
 ghost use Rattle.newer_commits.specs.JoinedHistory.{AreNumberedOnTop, joined_history};
+ghost use Rattle.newer_commits.specs.RanksOnTop.{ranking_on_top};
 
 use crate::base::Base;
 
@@ -21,13 +21,13 @@ pub fn right_numbers_stay_right()
         → CountWalks (joined_history base newer) }
 {}
 
-/// Where the dates of the base fall along all parents, as right corrected dates do, so do those of
-/// the base and the newer commits together.
-pub fn dates_fall_along_all_parents()
-    ensures { (base : List Node) (top : CommitsOnTop) (dates : DatesOnTop)
-        → length base ≡ top.below → FallOnTop top dates → AreAfterParents top
-        → FallsAlongParents base (by_date dates.below)
-        → FallsAlongParents (joined_history base (nodes_on_top top)) (by_date (all_dates dates)) }
+/// Where the dates of the base fall along all parents, as right corrected dates do, so do the ranks
+/// of the base and the newer commits together.
+pub fn ranks_on_top_fall_along_all_parents()
+    ensures { (base : List Node) (top : CommitsOnTop) (dates : List ℕ)
+        → length base ≡ top.below → length dates ≡ top.below → AreAfterParents top
+        → FallsAlongParents base (by_date dates)
+        → FallsAlongParents (joined_history base (nodes_on_top top)) (ranking_on_top dates) }
 {}
 
 /// Commits of the base have the parents and the walks that they have without newer commits.

@@ -16,7 +16,7 @@ use crate::search::search;
 use answer_lines::reply::Reply;
 use commit_requests::{CompleteError, complete};
 use gix_hash_core::{Kind, ObjectId};
-use newer_commits::{Base, Lent, Newer};
+use newer_commits::{Base, Lent, Newer, RanksOnTop};
 use object_requests::Requests;
 use object_stream::ObjectType;
 use question_lines::question::Question;
@@ -25,7 +25,8 @@ use std::io::{Read, Write};
 
 /// What is answered to a question that asks for a search, over a base whose ids are of this kind,
 /// and over the commits that it lacks. These are asked for first, each once: a line with its id is
-/// written for each, and its entry is read.
+/// written for each, and its entry is read. Merge bases are searched for by the ranks that are
+/// given, and without some by generation numbers.
 ///
 /// # Errors
 ///
@@ -35,6 +36,7 @@ pub fn answer_on_top<S: Base, R: Read, W: Write>(
     alloc: Global,
     base: &mut S,
     kind: Kind,
+    ranks: Option<RanksOnTop<'_>>,
     question: &Question,
     reader: &mut R,
     writer: &mut W,
@@ -45,7 +47,7 @@ pub fn answer_on_top<S: Base, R: Read, W: Write>(
         × (result ≢ Err CompleteError.WriteFailed
         → Appends (W.contents writer.old) (W.contents writer.new) (request_lines asked))
         × MayAnswerOnTop kind (S.count (S.known base.old)) (S.says base.new)
-        (S.finds (S.facts base.old)) (S.has_id (S.facts base.old))
+        (S.finds (S.facts base.old)) (S.has_id (S.facts base.old)) ranks.entry
         (λ e. S.may_fail (S.known base.old) e ⊎ S.Error.from_gives alloc_error e)
         (R.remaining reader.old) question.now asked result }
 
@@ -57,7 +59,15 @@ pub fn answer_on_top<S: Base, R: Read, W: Write>(
         return Err(CompleteError::OutOfMemory);
     };
     let mut newer = Newer::new(alloc, kind, Lent { base });
-    let answer = find_over(alloc, &mut newer, &mut requests, question, reader, writer);
+    let answer = find_over(
+        alloc,
+        &mut newer,
+        &mut requests,
+        ranks,
+        question,
+        reader,
+        writer,
+    );
     // They are taken apart, so that it is known what has become of the base.
     let Newer {
         base: lent,
@@ -73,6 +83,7 @@ fn find_over<S: Base, R: Read, W: Write>(
     alloc: Global,
     newer: &mut Newer<S>,
     requests: &mut Requests,
+    ranks: Option<RanksOnTop<'_>>,
     question: &Question,
     reader: &mut R,
     writer: &mut W,
@@ -90,7 +101,7 @@ fn find_over<S: Base, R: Read, W: Write>(
         × AreAskedOnTop newer.old.kind (S.finds (S.facts newer.old.base)) newer.old.commits
         (question_ids question.now) requests.new.asked top
         × MayComeOnTop newer.old.kind (S.says newer.new.base) (S.finds (S.facts newer.old.base))
-        (S.has_id (S.facts newer.old.base))
+        (S.has_id (S.facts newer.old.base)) ranks.entry
         (λ e. S.may_fail (S.known newer.old.base) e ⊎ S.Error.from_gives alloc_error e)
         (R.remaining reader.old) newer.old.commits top question.now requests.new.asked result }
     ensures few { (number : ℕ) → result ≡ Err (CompleteError.Unknown number)
@@ -100,7 +111,7 @@ fn find_over<S: Base, R: Read, W: Write>(
         return Err(CompleteError::OutOfMemory);
     };
     match complete(alloc, newer, requests, &ids, reader, writer) {
-        Ok(()) => match search(alloc, newer, question) {
+        Ok(()) => match search(alloc, newer, ranks, question) {
             Ok(reply) => Ok(reply),
             Err(error) => Err(CompleteError::Source(error)),
         },

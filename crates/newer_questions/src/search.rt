@@ -9,11 +9,12 @@ use commit_search::FewSearcher;
 use gix_hash_core::ObjectId;
 use graph_bases::FewComparer;
 use newer_answers::{ancestor_walk, compare, is_ancestor};
-use newer_commits::{Base, Newer};
+use newer_commits::{Base, Newer, RanksOnTop};
 use question_lines::question::Question;
 use std::alloc::Global;
 
-/// What is answered to a question that asks for a search.
+/// What is answered to a question that asks for a search. Merge bases are searched for by the ranks
+/// that are given, and without some by generation numbers.
 ///
 /// # Errors
 ///
@@ -21,13 +22,14 @@ use std::alloc::Global;
 pub(crate) fn search<S: Base>(
     alloc: Global,
     newer: &mut Newer<S>,
+    ranks: Option<RanksOnTop<'_>>,
     question: &Question,
 ) -> Result<Reply<Vec<ObjectId>>, S::Error>
     requires { IsSearched question.now }
     ensures known { S.known newer.new.base ≡ S.known newer.old.base }
     ensures found { IfOk result (IsReplyOnTop (S.says newer.new.base)
-        (S.finds (S.facts newer.old.base)) (S.has_id (S.facts newer.old.base)) newer.old.commits
-        question.now) }
+        (S.finds (S.facts newer.old.base)) (S.has_id (S.facts newer.old.base)) ranks.entry
+        newer.old.commits question.now) }
     ensures refused { IfErr result (λ e. S.may_fail (S.known newer.old.base) e
         ⊎ S.Error.from_gives alloc_error e) }
 {
@@ -45,7 +47,8 @@ pub(crate) fn search<S: Base>(
         }
         Question::MergeBase(first, others) => {
             let mut comparer = FewComparer::new(alloc);
-            let compared = compare(alloc, newer, &mut comparer, first.as_oid(), others)?;
+            let first = first.as_oid();
+            let compared = compare(alloc, newer, &mut comparer, ranks, first, others)?;
             Ok(Reply::Compared(compared))
         }
         Question::Find(_) => unreachable!(),

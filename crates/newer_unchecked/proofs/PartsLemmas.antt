@@ -1,5 +1,5 @@
 -- What comes of a question over the parts of a trusted graph is so of the graph at the path.
-use Rattle.std.proofs.Common.{◌≡◌, ◌⊎◌, ◌∙◌, ℕ, List, All, Option, Some, Vec, Result, Ok, Err, ap, slice_get, subst, sym}
+use Rattle.std.proofs.Common.{◌≡◌, ◌⊎◌, ◌∙◌, ℕ, List, All, Option, Some, None, Vec, Result, Ok, Err, ap, slice_get, subst, sym}
 use Rattle.std.specs.Global.{Global}
 use Rattle.std.specs.Prelude.{⊤}
 use Rattle.std.specs.Option.{ForSome}
@@ -8,6 +8,7 @@ use Rattle.graph_folder.specs.Tree.{Tree}
 use Rattle.graph_format.specs.Layer.{Layer}
 use Rattle.gix_commitgraph.specs.Graph.{graph_ids, total}
 use Rattle.gix_commitgraph.specs.GraphLookup.{FoundIn}
+use Rattle.graph_layer.specs.declared.opening.error.OpenError.TheVariants.{Device}
 use Rattle.graph_parts.specs.PartFiles.{commits_in_all}
 use Rattle.graph_parts.specs.Shown.{Shows, files_of}
 use Rattle.graph_parts.specs.declared.parts.GraphParts.{GraphParts}
@@ -20,10 +21,12 @@ use Rattle.graph_unchecked.specs.declared.unread.Unread.{Unread}
 use Rattle.graph_unchecked.proofs.BaseLemmas.{shown-known}
 use Rattle.answer_lines.specs.declared.reply.Reply.{Reply}
 use Rattle.question_lines.specs.declared.question.Question.{Question}
+use Rattle.graph_commands.specs.declared.refusal.Refusal.TheVariants.{Open}
 use Rattle.commit_requests.specs.declared.error.CompleteError.{CompleteError}
 use Rattle.newer_questions.specs.QuestionsOnTop.{MayAnswerOnTop}
 use Rattle.newer_commands.specs.AskedReply.{Verdict}
-use Rattle.newer_unchecked.specs.TrustedOnTop.{HasIdIn, IsToldOfParts, IsToldOfWant, MayComeByParts, TellsHistory}
+use Rattle.newer_commands.specs.declared.refusal.NewerRefusal.TheVariants.{Common}
+use Rattle.newer_unchecked.specs.TrustedOnTop.{HasIdIn, IsToldOfParts, MayComeByParts, TellsHistory}
 use Rattle.newer_unchecked.proofs.WeakerLemmas.{answers_so}
 
 ok_of : {E : Type 0} → Result (List Layer) E → List Layer → List Layer
@@ -56,8 +59,8 @@ module _ (known : Option Tree) (parts : GraphParts) (failures folder name : ℕ)
       → ForSome known (λ (tree : Tree). IsAnswerAt tree path (λ layers k. All (λ (layer : Layer). layer.kind ≡ k) layers) kind)
       → MayAnswerOnTop kind (commits_in_all (files_of parts)) (PartsTell now more)
       (IsFoundByParts (known_parts known parts failures folder name))
-      (IsIdByParts (known_parts known parts failures folder name)) may_fail bytes question asked outcome
-      → IsToldOfParts outcome found ⊎ IsToldOfWant found
+      (IsIdByParts (known_parts known parts failures folder name)) None may_fail bytes question asked outcome
+      → IsToldOfParts outcome found ⊎ (found ≡ Some (Err (Common (Open Device))))
       → ForSome known (λ (tree : Tree). IsAnswerAt tree path (λ layers. MayComeByParts layers bytes question asked) found)
   comes_at path kind now more may_fail bytes question asked outcome found of same_tree after kinds comes told tree is =
       let at = of.opened tree is in

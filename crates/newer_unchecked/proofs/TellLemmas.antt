@@ -4,7 +4,7 @@ use Rattle.std.proofs.KnownBytes.{Appends-trans}
 use Rattle.std.specs.Global.{Global}
 use Rattle.std.specs.Io.KnownBytes.{Appends}
 use Rattle.std.specs.Option.{ForSome}
-use Rattle.std.specs.Prelude.{Result, Ok, Err, IfOk, Vec}
+use Rattle.std.specs.Prelude.{Result, Ok, Err, IfErr, IfOk, OnErr, Vec}
 use Rattle.graph_folder.specs.Failures.{one_more}
 use Rattle.graph_folder.specs.Tree.{Tree}
 use Rattle.graph_format.specs.Layer.{Layer}
@@ -13,7 +13,7 @@ use Rattle.graph_layer.specs.declared.opening.error.OpenError.TheVariants.{Devic
 use Rattle.graph_unchecked.specs.Unchecked.{IsAnswerAt}
 use Rattle.graph_unchecked.specs.Unread.{failures_after_reads}
 use Rattle.graph_unchecked.specs.declared.unread.Unread.{Unread}
-use Rattle.graph_unchecked.proofs.FailureLemmas.{kept-unless, risen-if}
+use Rattle.graph_unchecked.proofs.FailureLemmas.{risen-if}
 use Rattle.graph_unchecked.specs.declared.unread.Unread.TheVariants as unread
 use Rattle.answer_lines.specs.Replies.{listed_reply}
 use Rattle.answer_lines.specs.declared.reply.Form.{Form}
@@ -100,16 +100,16 @@ never_failed outcome found told = λ is.
 plain_read : (MayOpen : ℕ → ℕ → Result (List Layer) OpenError → Type 0) (before after : ℕ) (found : Verdict)
     → IsPlain (Some found) → after ≡ before → IsReadSo MayOpen before after found
 plain_read MayOpen before after (Ok reply) plain same = same
-plain_read MayOpen before after (Err (Common (Id error))) plain same = tt
-plain_read MayOpen before after (Err (Common (Read error))) plain same = tt
-plain_read MayOpen before after (Err (Common (File error))) plain same = tt
+plain_read MayOpen before after (Err (Common (Id error))) plain same = same
+plain_read MayOpen before after (Err (Common (Read error))) plain same = same
+plain_read MayOpen before after (Err (Common (File error))) plain same = same
 plain_read MayOpen before after (Err (Common (Open error))) plain same = absurd plain
 plain_read MayOpen before after (Err (Common (Verify error))) plain same = absurd plain
-plain_read MayOpen before after (Err (Common Walk)) plain same = tt
-plain_read MayOpen before after (Err (Entry id error)) plain same = tt
-plain_read MayOpen before after (Err (Unreadable id)) plain same = tt
-plain_read MayOpen before after (Err (Cycle id)) plain same = tt
-plain_read MayOpen before after (Err Full) plain same = tt
+plain_read MayOpen before after (Err (Common Walk)) plain same = same
+plain_read MayOpen before after (Err (Entry id error)) plain same = same
+plain_read MayOpen before after (Err (Unreadable id)) plain same = same
+plain_read MayOpen before after (Err (Cycle id)) plain same = same
+plain_read MayOpen before after (Err Full) plain same = same
 plain_read MayOpen before after (Err Changed) plain same = absurd plain
 
 verdict_in : Option Verdict → Verdict → Verdict
@@ -126,32 +126,49 @@ counted_read MayOpen before after found (inl (plain, same)) = plain_read MayOpen
 counted_read MayOpen before after found (inr (is, rose)) =
     subst (IsReadSo MayOpen before after) (sym (one_found found (Err (Common (Open Device))) is)) (inl (refl, rose))
 
--- Of a search over files, whose reads failed so many times before and after.
-module _ (old before after later : ℕ) (from : before ≡ old) (ends : later ≡ after) where
-  pub counted_kept : {A : Type 0} (answer : Result A Unread) (found : Option Verdict) → IsPlain found
-      → (answer ≡ Err unread.Device → ⊥) → after ≡ failures_after_reads answer before → IsFailureCounted old later found
-  counted_kept answer found plain other counted = inl (plain, ends ∙ kept-unless answer before after other counted ∙ from)
+found_or : {X : Type 0} → X → Result X Unread → X
+found_or other (Ok found) = found
+found_or other (Err error) = other
 
-  pub counted_device : {A : Type 0} (answer : Result A Unread) (found : Option Verdict)
-      → found ≡ Some (Err (Common (Open Device))) → answer ≡ Err unread.Device → after ≡ failures_after_reads answer before
-      → IsFailureCounted old later found
-  counted_device answer found is device counted =
-      inr (is, ends ∙ risen-if answer before after device counted ∙ ap one_more from)
+-- What was found, unless a read of the files failed.
+module _ {X : Type 0} (listed : X → Option Verdict) (found : X) where
+  ok_found : (other : X) → ◌≡◌ {A = Result X Unread} (Ok found) (Ok other) → other ≡ found
+  unfolding found_or
+  ok_found other same = ap (found_or found) (sym same)
 
--- that memory ran out is plain
-pub plain_walk : (found : Option Verdict) → found ≡ Some (Err (Common Walk)) → IsPlain found
-plain_walk found is = subst IsPlain (sym is) tt
+  -- it is told, or that one failed
+  pub told_or_failed : (read : Result X Unread) (told : X) (Says : Option Verdict → Type 0) → Says (listed found)
+      → IfOk read (λ other. Ok found ≡ Ok other) → IfOk read (λ other. told ≡ other)
+      → OnErr read (listed told ≡ Some (Err (Common (Open Device))))
+      → Says (listed told) ⊎ (listed told ≡ Some (Err (Common (Open Device))))
+  told_or_failed (Ok other) told Says says same is failed =
+      inl (subst (λ (x : X). Says (listed x)) (sym (is ∙ ok_found other same)) says)
+  told_or_failed (Err error) told Says says same is failed = inr failed
+
+  -- and one has failed exactly where that is told
+  pub told_counted : (old before after later : ℕ) → before ≡ old → later ≡ after → (read : Result X Unread) (told : X)
+      → IsPlain (listed found) → IfOk read (λ other. Ok found ≡ Ok other)
+      → IfErr read (λ error. (error ≡ unread.Device) ⊎ (Ok found ≡ Err error))
+      → after ≡ failures_after_reads read before → IfOk read (λ other. told ≡ other)
+      → OnErr read (listed told ≡ Some (Err (Common (Open Device)))) → IsFailureCounted old later (listed told)
+  told_counted old before after later from ends (Ok other) told plain same error counted is failed =
+      inl (subst (λ (x : X). IsPlain (listed x)) (sym (is ∙ ok_found other same)) plain, ends ∙ counted ∙ from)
+  told_counted old before after later from ends (Err error) told plain same (inl device) counted is failed =
+      inr (failed, ends ∙ risen-if (Err error) before after (ap (λ (e : Unread). Err e) device) counted ∙ ap one_more from)
+  told_counted old before after later from ends (Err error) told plain same (inr other) counted is failed =
+      let clash : ◌≡◌ {A = Result X Unread} (Ok found) (Err error) = other in cc
 
 -- where parts do not suffice, no read has failed
 pub counted_none : (before after : ℕ) → IsFailureCounted before after None → after ≡ before
 counted_none before after (inl (plain, same)) = same
 counted_none before after (inr (is, rose)) = let clash : None ≡ Some (Err (Common (Open Device))) = is in cc
 
--- memory may run out at any time
+-- What is told in place of what was found is so of the reads too.
 pub told_read : (MayOpen : ℕ → ℕ → Result (List Layer) OpenError → Type 0) (before after : ℕ) (found told : Verdict)
     → IsToldFor found told → IsReadSo MayOpen before after found → IsReadSo MayOpen before after told
-told_read MayOpen before after found told (inl same) read = subst (IsReadSo MayOpen before after) (sym same) read
-told_read MayOpen before after found told (inr short) read = subst (IsReadSo MayOpen before after) (sym short) tt
+told_read MayOpen before after (Ok reply) told (inl same) read = subst (IsReadSo MayOpen before after) (sym same) read
+told_read MayOpen before after (Ok reply) told (inr short) read = subst (IsReadSo MayOpen before after) (sym short) read
+told_read MayOpen before after (Err refusal) told same read = subst (IsReadSo MayOpen before after) (sym same) read
 
 module _ (MayOpen : ℕ → ℕ → Result (List Layer) OpenError → Type 0) (before after : ℕ) where
   pub whole_read : (refusal : NewerRefusal) → IsRefusalOfWhole (MayOpen before after) refusal
@@ -186,7 +203,7 @@ module _ (MayOpen : ℕ → ℕ → Result (List Layer) OpenError → Type 0) (b
 pub by_parts : (known : Option Tree) (path : List ℕ) (before after : ℕ) (bytes : Option (List ℕ)) (question : Question)
     (requests : List (List ℕ)) (found : Option Verdict) (told : Verdict)
     → ForSome known (λ tree. IsAnswerAt tree path (λ layers. MayComeByParts layers bytes question requests) found)
-    → IsToldWith found told ⊎ (told ≡ Err (Common Walk)) → IsReadSo (MayOpen known path) before after told
+    → IsToldWith found told → IsReadSo (MayOpen known path) before after told
     → IsToldByParts (MayOpen known path) before after bytes question (record { asked = requests; verdict = told })
 by_parts known path before after bytes question requests found told comes is read = (
   read,
@@ -195,15 +212,9 @@ by_parts known path before after bytes question requests found told comes is rea
       (λ layers come. (found, come, is)) comes,
 )
 
--- what was found is told, or that memory ran out
-pub told_with : (found told : Verdict) → IsToldFor found told → IsToldWith (Some found) told ⊎ (told ≡ Err (Common Walk))
-told_with found told (inl same) = inl same
-told_with found told (inr short) = inr short
-
 pub told_of_whole : (refusal : NewerRefusal) (told : Verdict) → IsToldOfWhole (Err refusal) → IsToldFor (Err refusal) told
-    → IsToldWith None told ⊎ (told ≡ Err (Common Walk))
-told_of_whole refusal told whole (inl same) = inl (subst IsToldOfWhole (sym same) whole)
-told_of_whole refusal told whole (inr short) = inr short
+    → IsToldWith None told
+told_of_whole refusal told whole same = subst IsToldOfWhole (sym same) whole
 
 -- ---- What was asked for, and then what is told.
 

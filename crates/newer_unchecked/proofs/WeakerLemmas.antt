@@ -71,8 +71,8 @@ module _ (says less : Told → Type 0) (said : (t : Told) → less t → (before
       never before.0 before.1 (subst CountWalks (sym before.2) counts)
       (subst (λ (h : List Node). Reaches (on_top h) p q) (sym before.2) leads)
 
-  bases_so : (first : ℕ) (others : List ℕ) (compared : Comparison) → AreBasesOnTop says top first others compared
-      → AreBasesOnTop less top first others compared
+  bases_so : (first : ℕ) (others : List ℕ) (compared : Comparison) → AreBasesOnTop says top None first others compared
+      → AreBasesOnTop less top None first others compared
   bases_so first others compared are = record {
     common = λ t is.
         let before = said t is in
@@ -101,7 +101,8 @@ module _ (says less : Told → Type 0) (said : (t : Told) → less t → (before
     walk_so p q None never = never_so p q never
 
     compared_so : (first : ℕ) (others : List ℕ) (known : IdComparison (Vec (List ℕ) Global))
-        → IsComparedOnTop says has top first others known → IsComparedOnTop less other top first others known
+        → IsComparedOnTop says has top None first others known
+        → IsComparedOnTop less other top None first others known
     compared_so first others known are = (
       bases_so first others known.comparison are.0,
       ids_so (numbers_of known.comparison.bases.positions.items) known.base_ids.items are.1,
@@ -113,8 +114,8 @@ module _ (says less : Told → Type 0) (said : (t : Told) → less t → (before
       finds : (id : List ℕ) (answer : Option ℕ) → Finds base top id answer → Finds scans top id answer
       finds id answer found = finds_as base scans same top id answer found
 
-      pub reply_so : (question : Question) (answer : Reply (Vec (List ℕ) Global)) → IsReplyOnTop says base has top question answer
-          → IsReplyOnTop less scans other top question answer
+      pub reply_so : (question : Question) (answer : Reply (Vec (List ℕ) Global)) → IsReplyOnTop says base has None top question answer
+          → IsReplyOnTop less scans other None top question answer
       reply_so (IsAncestor first second) (reply.Told told) is =
           found_same (Finds base top) (Finds scans top) finds (OfTwo (IsToldOnTop says top)) (OfTwo (IsToldOnTop less top))
           (first ∷ second ∷ []) told (two_so (λ x. x) (IsToldOnTop says top) (IsToldOnTop less top) told_so) is
@@ -123,9 +124,9 @@ module _ (says less : Told → Type 0) (said : (t : Told) → less t → (before
           (OfTwo (IsWalkOnTop less other top)) (first ∷ second ∷ []) walk
           (two_so (λ x. x) (IsWalkOnTop says has top) (IsWalkOnTop less other top) walk_so) is
       reply_so (MergeBase first others) (reply.Compared compared) is =
-          found_same (Finds base top) (Finds scans top) finds (OfFirst (IsComparedOnTop says has top))
-          (OfFirst (IsComparedOnTop less other top)) (first ∷ others.items) compared
-          (all_so (λ x. x) (IsComparedOnTop says has top) (IsComparedOnTop less other top) compared_so) is
+          found_same (Finds base top) (Finds scans top) finds (OfFirst (IsComparedOnTop says has top None))
+          (OfFirst (IsComparedOnTop less other top None)) (first ∷ others.items) compared
+          (all_so (λ x. x) (IsComparedOnTop says has top None) (IsComparedOnTop less other top None) compared_so) is
       reply_so (Find id) (reply.Found found) is = absurd is
       reply_so (Find id) (reply.Told told) is = absurd is
       reply_so (Find id) (reply.Walk walk) is = absurd is
@@ -161,8 +162,8 @@ module _ {E : Type 0} (says less : Told → Type 0)
     (failing : (error : E) → may_fail error → may error) (kind : Kind) (known : Option (List ℕ)) (question : Question)
     (asked : List (List ℕ)) where
   comes_so : (none top : CommitsOnTop) (answer : Result (Reply (Vec (List ℕ) Global)) (CompleteError E))
-      → MayComeOnTop kind says base has may_fail known none top question asked answer
-      → MayComeOnTop kind less scans other may known none top question asked answer
+      → MayComeOnTop kind says base has None may_fail known none top question asked answer
+      → MayComeOnTop kind less scans other None may known none top question asked answer
   comes_so none top (Ok answer) comes = (
     all_as base scans same kind (question_ids question) asked known top comes.0,
     reply_so says less said top has other owns base scans same question answer comes.1,
@@ -172,8 +173,8 @@ module _ {E : Type 0} (says less : Told → Type 0)
 
   -- what may be answered over the one base may be answered over the other
   pub answers_so : (count total : ℕ) (answer : Result (Reply (Vec (List ℕ) Global)) (CompleteError E)) → count ≡ total
-      → MayAnswerOnTop kind count says base has may_fail known question asked answer
-      → MayAnswerOnTop kind total less scans other may known question asked answer
+      → MayAnswerOnTop kind count says base has None may_fail known question asked answer
+      → MayAnswerOnTop kind total less scans other None may known question asked answer
   answers_so count total answer counted may = record {
     none = may.none;
     nothing = (may.nothing.0, may.nothing.1 ∙ counted);

@@ -23,7 +23,7 @@ use Rattle.commit_requests.specs.declared.error.CompleteError.{CompleteError}
 use Rattle.commit_requests.specs.declared.error.CompleteError.TheVariants.{Lost}
 use Rattle.newer_questions.specs.QuestionsOnTop.{MayAnswerOnTop}
 use Rattle.newer_commands.specs.AskedNewer.{MayReplyNewer}
-use Rattle.newer_commands.specs.AskedReply.{AskedReply, IsVerdictOf, Verdict, listed_verdict}
+use Rattle.newer_commands.specs.AskedReply.{AskedReply, IsToldFor, IsVerdictOf, Verdict, listed_verdict}
 use Rattle.newer_commands.specs.declared.refusal.NewerRefusal.{NewerRefusal}
 use Rattle.newer_commands.specs.declared.refusal.NewerRefusal.TheVariants.{Changed, Common}
 use Rattle.unchecked_commands.specs.OnlyAnswer.{IsOnlyAnswer}
@@ -48,22 +48,18 @@ IsToldOfParts (Ok reply) found = found ≡ Some (Ok (listed_reply reply))
 IsToldOfParts (Err (Lost id)) found = found ≡ None
 IsToldOfParts (Err error) found = (told : Result Verdict Unread) × IsVerdictOf error told × (found ≡ verdict_by_parts told)
 
--- it is told that a read of the files failed, or that memory ran out
-abbrev pub IsToldOfWant : Option Verdict → Type 0
-IsToldOfWant found = (found ≡ Some (Err (Common (Open Device)))) ⊎ (found ≡ Some (Err (Common Walk)))
-
 -- This may come of a question over the commits of these layers, of whose files parts are read: those commits were asked for that
--- are lacking; and then an answer comes, or why there is none; or a read of the files failed, or memory ran out. The reader has
--- these bytes, where they are known.
+-- are lacking; and then an answer comes, or why there is none; or it is told that a read of the files failed. The reader has these
+-- bytes, where they are known.
 pub record MayComeByParts (layers : List Layer) (known : Option (List ℕ)) (question : Question) (asked : List (List ℕ))
     (found : Option Verdict) : Type 0 where
   pub kind : Kind
   pub are_kind : All (λ layer. layer.kind ≡ kind) layers
   pub outcome : Result (Reply (Vec (List ℕ) Global)) (CompleteError Unread)
   pub comes :
-      MayAnswerOnTop kind (total layers) (TellsHistory layers) (FoundIn layers) (HasIdIn layers) (λ _. ⊤) known question asked
-      outcome
-  pub is_told : IsToldOfParts outcome found ⊎ IsToldOfWant found
+      MayAnswerOnTop kind (total layers) (TellsHistory layers) (FoundIn layers) (HasIdIn layers) None (λ _. ⊤) known question
+      asked outcome
+  pub is_told : IsToldOfParts outcome found ⊎ (found ≡ Some (Err (Common (Open Device))))
 
 -- where parts do not suffice, it is told why the whole graph is refused, or that it has changed
 abbrev pub IsToldOfWhole : Verdict → Type 0
@@ -74,25 +70,22 @@ IsToldOfWhole verdict = ⊥
 
 -- this is told of what came by parts
 abbrev pub IsToldWith : Option Verdict → Verdict → Type 0
-IsToldWith (Some found) verdict = verdict ≡ found
+IsToldWith (Some found) verdict = IsToldFor found verdict
 IsToldWith None verdict = IsToldOfWhole verdict
 
--- what may be told over the commits of these layers: lines that ask for what is lacking, and then what came of it; or that memory
--- ran out
+-- what may be told over the commits of these layers: lines that ask for what is lacking, and then what came of it
 abbrev pub MayTellByParts : List Layer → Option (List ℕ) → Question → AskedReply → Type 0
 MayTellByParts layers known question told =
-    (found : Option Verdict) × MayComeByParts layers known question told.asked found
-    × (IsToldWith found told.verdict ⊎ (told.verdict ≡ Err (Common Walk)))
+    (found : Option Verdict) × MayComeByParts layers known question told.asked found × IsToldWith found told.verdict
 
--- what may be told while the count of failed reads goes from `before` to `after`: an answer only where none failed, that one
--- failed only where one did, and of the whole graph only what the opener may answer
+-- what may be told while the count of failed reads goes from `before` to `after`: that one failed only where one did, of the whole
+-- graph only what the opener may answer, and anything else only where none failed
 abbrev pub IsReadSo : (ℕ → ℕ → Result (List Layer) OpenError → Type 0) → ℕ → ℕ → Verdict → Type 0
-IsReadSo MayOpen before after (Ok reply) = after ≡ before
 IsReadSo MayOpen before after (Err (Common (Open error))) =
     ((error ≡ Device) × (after ≡ one_more before)) ⊎ MayOpen before after (Err error)
 IsReadSo MayOpen before after (Err (Common (Verify error))) = MayRefuseToStart (MayOpen before after) (Verify error)
 IsReadSo MayOpen before after (Err Changed) = (layers : List Layer) × MayOpen before after (Ok layers) × Sound layers
-IsReadSo MayOpen before after (Err refusal) = ⊤
+IsReadSo MayOpen before after verdict = after ≡ before
 
 -- what may be told of a graph that is read by parts: what is so of the graph that is the opener's only answer; and nothing, where
 -- that is a refusal

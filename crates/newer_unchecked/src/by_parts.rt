@@ -52,13 +52,20 @@ pub(crate) fn find_by_parts<T: Folder, R: Read, W: Write>(
 {
     let kind = graph.kind();
     let mut commits = TrustedCommits::new(alloc, folder, graph.parts());
-    let outcome = answer_on_top(alloc, &mut commits, kind, question, reader, writer);
+    let outcome = answer_on_top(alloc, &mut commits, kind, None, question, reader, writer);
     let found = told_of(outcome)?;
-    match commits.unless_failed(Ok(())) {
-        Ok(()) => Ok(found),
-        Err(Unread::Device) => Ok(refused(Refusal::Open(OpenError::Device))),
-        Err(Unread::OutOfMemory) => Ok(refused(Refusal::Walk)),
-        Err(Unread::NotByParts) => Ok(refused(Refusal::Walk)),
+    Ok(told_unless(commits.unless_failed(Ok(found))))
+}
+
+/// What was found is told, unless a read of the files failed.
+fn told_unless(found: Result<Option<Verdict>, Unread>) -> Option<Verdict>
+    ensures found { IfOk found (λ found. result ≡ found) }
+    ensures failed { OnErr found
+        (listed_found result ≡ Some (Err (NewerRefusal.Common (Open Device)))) }
+{
+    match found {
+        Ok(found) => found,
+        Err(_) => refused(Refusal::Open(OpenError::Device)),
     }
 }
 

@@ -1,18 +1,18 @@
 //! What the tests share: a folder of graphs that are built from rows, and commands that are run in
 //! it. Where an allocation fails, the process aborts.
 
+use answer_lines::reply::Form;
 use gix_hash_core::ObjectId;
 use graph_commands::command::Command;
 use graph_commands::line::WriteFailed;
 use graph_commands::program::{Complaints, respond};
 use graph_folder::folder::{Folder, Memory};
 use graph_vectors::{DIAMOND, Row, Sink, file_of_rows};
+use history_commands::SpelledQuestion;
 use std::alloc::Global;
 use std::io;
 use std::process::Abort;
-use unchecked_commands::run::{
-    run_is_ancestor_unchecked, run_merge_base_ids_unchecked, run_walk_unchecked,
-};
+use unchecked_commands::run::run_spelled_unchecked;
 
 pub const ONES: &str = "1111111111111111111111111111111111111111";
 
@@ -264,14 +264,17 @@ pub fn answer<T: Folder>(
     match asked {
         Asked::Words(words) => answer_to_words(rt, alloc, folder, words, out),
         Asked::IsAncestor(path, first, second) => {
-            run_is_ancestor_unchecked(alloc, folder, path, first, second, out)
+            let question = SpelledQuestion::IsAncestor(first, second);
+            run_spelled_unchecked(alloc, folder, path, question, Form::Whole, out)
         }
         Asked::Walk(path, first, second) => {
-            run_walk_unchecked(alloc, folder, path, first, second, out)
+            let question = SpelledQuestion::Walk(first, second);
+            run_spelled_unchecked(alloc, folder, path, question, Form::Whole, out)
         }
         Asked::MergeBaseIds(path, first, other) => {
             let others = [owned(rt, alloc, other)];
-            run_merge_base_ids_unchecked(alloc, folder, path, first, &others, out)
+            let question = SpelledQuestion::MergeBase(first, &others);
+            run_spelled_unchecked(alloc, folder, path, question, Form::IdsAlone, out)
         }
     }
 }

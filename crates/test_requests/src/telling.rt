@@ -3,9 +3,11 @@
 use crate::completing::stream_of;
 use crate::fixtures::{Flushed, Pieces};
 use crate::history::{ANCESTORS, BASE_LINES, Command, WALK_LINES};
+use answer_lines::reply::Form;
 use graph_commands::line::WriteFailed;
 use graph_folder::folder::Memory;
-use newer_commands::run::{run_is_ancestor_newer, run_merge_base_ids_newer, run_walk_newer};
+use history_commands::SpelledQuestion;
+use newer_commands::run::run_spelled_newer;
 use std::alloc::Global;
 use std::process::Abort;
 
@@ -46,12 +48,12 @@ fn ask_ancestor(rt: &impl Abort, alloc: Global, row: &Command) {
         most: 7,
         fails: true,
     };
-    let status = run_is_ancestor_newer(
+    let status = run_spelled_newer(
         alloc,
         &mut folder,
         None,
-        first,
-        second,
+        SpelledQuestion::IsAncestor(first, second),
+        Form::Whole,
         &mut reader,
         &mut writer,
     );
@@ -68,12 +70,12 @@ fn ask_walk(rt: &impl Abort, alloc: Global, row: &Command) {
         most: 7,
         fails: true,
     };
-    let status = run_walk_newer(
+    let status = run_spelled_newer(
         alloc,
         &mut folder,
         None,
-        first,
-        second,
+        SpelledQuestion::Walk(first, second),
+        Form::Whole,
         &mut reader,
         &mut writer,
     );
@@ -92,12 +94,12 @@ fn ask_bases(rt: &impl Abort, alloc: Global, row: &Command) {
     };
     let other = String::from_str(alloc, second).ok().expect(rt, "memory");
     let others = [other];
-    let status = run_merge_base_ids_newer(
+    let status = run_spelled_newer(
         alloc,
         &mut folder,
         None,
-        first,
-        &others,
+        SpelledQuestion::MergeBase(first, &others),
+        Form::IdsAlone,
         &mut reader,
         &mut writer,
     );

@@ -1,14 +1,13 @@
 //! The commands, over a folder and a writer.
 
-ghost use Rattle.std.specs.Prelude.{◌≡◌, ◌∷◌, [], IfOk, Ok, map, string_bytes};
+ghost use Rattle.std.specs.Prelude.{◌≡◌, IfOk, Ok};
 ghost use Rattle.answer_lines.specs.Replies.{listed_reply, response_status, response_text};
-ghost use Rattle.answer_lines.specs.declared.reply.Form.TheVariants.{Whole, IdsAlone};
 ghost use Rattle.graph_commands.specs.OpenerAnswer.{MayOpen};
 ghost use Rattle.graph_commands.specs.WrittenAnswer.{WritesAnswer};
 ghost use Rattle.graph_unchecked.specs.Unread.{failures_after_reads};
 ghost use Rattle.history_commands.specs.AskedOnce.{MayAskOnce};
 ghost use Rattle.history_commands.specs.CheckedReplies.{IsSearched};
-ghost use Rattle.question_lines.specs.declared.question.Name.TheVariants as named;
+ghost use Rattle.history_commands.specs.SpelledQuestions.{spelled_name, spelled_texts};
 ghost use Rattle.unchecked_commands.specs.OnlyAnswer.{IsReadByParts};
 ghost use Rattle.unchecked_commands.specs.TrustedReplies.{IsReplyByParts, MayReplyTrusted};
 
@@ -22,138 +21,40 @@ use graph_commands::run::refuse;
 use graph_folder::folder::Folder;
 use graph_unchecked::trusted::TrustedGraph;
 use graph_unchecked::unread::Unread;
+use history_commands::SpelledQuestion;
 use history_commands::run::run_question;
-use history_commands::words::{read_group, read_two};
 use question_lines::question::Question;
 use std::alloc::Global;
 use std::io::Write;
 
-/// Tells what `run_is_ancestor` tells, in its lines and with its statuses, of a graph that is
-/// trusted: of its files only parts are read, and they are not checked. Where they make a right
-/// graph, the answer is that of `run_is_ancestor`. Where they do not, a `yes` still names a walk
-/// that is there, and a `no` promises nothing.
+/// Answers a question whose ids are texts, in the lines of `run_spelled` of `history_commands` and
+/// with its statuses, over a graph that is trusted: of its files only parts are read, and they are
+/// not checked. Where they make a right graph, the answer is that of `run_spelled`. Where they do
+/// not, a `yes`, the ids on a walk and each merge base, which is a common ancestor then, are still
+/// there; but a walk need not be a shortest one, a base may be missing or not be a best one, and a
+/// `no`, `none` or a number promises nothing.
 ///
-/// Where parts do not suffice, or what was read cannot be that of a right graph, `run_is_ancestor`
+/// Where parts do not suffice, or what was read cannot be that of a right graph, `run_spelled`
 /// answers: it reads the files whole, and says why they are refused. A failed read is refused as
 /// one of the opener, and want of memory as one of the search. `WriteFailed` comes where the writer
 /// fails.
-pub fn run_is_ancestor_unchecked<T: Folder, W: Write>(
+pub fn run_spelled_unchecked<T: Folder, W: Write>(
     alloc: Global,
     folder: &mut T,
     path: &str,
-    first: &str,
-    second: &str,
+    question: SpelledQuestion<'_>,
+    form: Form,
     writer: &mut W,
 ) -> Result<u8, WriteFailed>
-    ensures written { IfOk result (WritesAnswer (response_text Whole) response_status
-        (MayAskOnce named.IsAncestor (first.now ∷ second.now ∷ []) (folder.new ≡ folder.old)
-        (MayReplyTrusted (MayOpen (T.tree folder.old) path.now)
+    ensures written { IfOk result (WritesAnswer (response_text form) response_status
+        (MayAskOnce (spelled_name question.entry) (spelled_texts question.entry)
+        (folder.new ≡ folder.old) (MayReplyTrusted (MayOpen (T.tree folder.old) path.now)
         (T.failure_count folder.old) (T.failure_count folder.new)))
         (W.contents writer.old) (W.contents writer.new)) }
     ensures tree { T.tree folder.new ≡ T.tree folder.old }
 {
-    match read_two(first, second) {
-        Ok(ids) => {
-            let question = Question::IsAncestor(ids.0, ids.1);
-            run_question_unchecked(alloc, folder, path, &question, Form::Whole, writer)
-        }
-        Err(error) => refuse(writer, &Refusal::Id(error)),
-    }
-}
-
-/// Writes what `run_walk` writes, in its lines and with its statuses, of a graph that is trusted:
-/// of its files only parts are read, and they are not checked. Where they make a right graph, the
-/// answer is one of `run_walk`. Where they do not, ids that are written are still those on a walk
-/// that is there, but it need not be a shortest one, and `none` promises nothing.
-///
-/// Where parts do not suffice, or what was read cannot be that of a right graph, `run_walk`
-/// answers: it reads the files whole, and says why they are refused. A failed read is refused as
-/// one of the opener, and want of memory as one of the search. `WriteFailed` comes where the writer
-/// fails.
-pub fn run_walk_unchecked<T: Folder, W: Write>(
-    alloc: Global,
-    folder: &mut T,
-    path: &str,
-    first: &str,
-    second: &str,
-    writer: &mut W,
-) -> Result<u8, WriteFailed>
-    ensures written { IfOk result (WritesAnswer (response_text Whole) response_status
-        (MayAskOnce named.Walk (first.now ∷ second.now ∷ []) (folder.new ≡ folder.old)
-        (MayReplyTrusted (MayOpen (T.tree folder.old) path.now)
-        (T.failure_count folder.old) (T.failure_count folder.new)))
-        (W.contents writer.old) (W.contents writer.new)) }
-    ensures tree { T.tree folder.new ≡ T.tree folder.old }
-{
-    match read_two(first, second) {
-        Ok(ids) => {
-            let question = Question::Walk(ids.0, ids.1);
-            run_question_unchecked(alloc, folder, path, &question, Form::Whole, writer)
-        }
-        Err(error) => refuse(writer, &Refusal::Id(error)),
-    }
-}
-
-/// Writes what `run_merge_base` writes, in its lines and with its statuses, of a graph that is
-/// trusted: of its files only parts are read, and they are not checked. Where they make a right
-/// graph, the answer is that of `run_merge_base`. Where they do not, each base that is written is
-/// still a common ancestor; one may be missing or not be a best one, and the numbers of commits
-/// promise nothing.
-///
-/// Where parts do not suffice, or what was read cannot be that of a right graph, `run_merge_base`
-/// answers: it reads the files whole, and says why they are refused. A failed read is refused as
-/// one of the opener, and want of memory as one of the search. `WriteFailed` comes where the writer
-/// fails.
-pub fn run_merge_base_unchecked<T: Folder, W: Write>(
-    alloc: Global,
-    folder: &mut T,
-    path: &str,
-    first: &str,
-    others: &[String],
-    writer: &mut W,
-) -> Result<u8, WriteFailed>
-    ensures written { IfOk result (WritesAnswer (response_text Whole) response_status
-        (MayAskOnce named.MergeBase (first.now ∷ map string_bytes others.now)
-        (folder.new ≡ folder.old)
-        (MayReplyTrusted (MayOpen (T.tree folder.old) path.now)
-        (T.failure_count folder.old) (T.failure_count folder.new)))
-        (W.contents writer.old) (W.contents writer.new)) }
-    ensures tree { T.tree folder.new ≡ T.tree folder.old }
-{
-    match read_group(alloc, first, others) {
-        Ok(ids) => {
-            let question = Question::MergeBase(ids.0, ids.1);
-            run_question_unchecked(alloc, folder, path, &question, Form::Whole, writer)
-        }
-        Err(refusal) => refuse(writer, &refusal),
-    }
-}
-
-/// Compares commits as `run_merge_base_unchecked` does, and writes the ids of the merge bases
-/// alone, in the lines of `run_merge_base_ids`, which answers where parts do not suffice. The
-/// answer is the exit status, that of `run_merge_base_unchecked`. `WriteFailed` comes where the
-/// writer fails.
-pub fn run_merge_base_ids_unchecked<T: Folder, W: Write>(
-    alloc: Global,
-    folder: &mut T,
-    path: &str,
-    first: &str,
-    others: &[String],
-    writer: &mut W,
-) -> Result<u8, WriteFailed>
-    ensures written { IfOk result (WritesAnswer (response_text IdsAlone) response_status
-        (MayAskOnce named.MergeBase (first.now ∷ map string_bytes others.now)
-        (folder.new ≡ folder.old)
-        (MayReplyTrusted (MayOpen (T.tree folder.old) path.now)
-        (T.failure_count folder.old) (T.failure_count folder.new)))
-        (W.contents writer.old) (W.contents writer.new)) }
-    ensures tree { T.tree folder.new ≡ T.tree folder.old }
-{
-    match read_group(alloc, first, others) {
-        Ok(ids) => {
-            let question = Question::MergeBase(ids.0, ids.1);
-            run_question_unchecked(alloc, folder, path, &question, Form::IdsAlone, writer)
-        }
+    match question.read(alloc) {
+        Ok(question) => run_question_unchecked(alloc, folder, path, &question, form, writer),
         Err(refusal) => refuse(writer, &refusal),
     }
 }

@@ -3,6 +3,7 @@ parents, where a commit has many parents, where a chain is opened anew of which 
 a root of its own.
 """
 
+import hashlib
 import os
 import re
 import time
@@ -153,10 +154,13 @@ def wide():
 
 
 def check_branch(histories, results, path):
-    """Checks how many commits a search for merge bases takes, by dates and without, in a checked graph and in a trusted one. Of the
-    branch's commits the generation numbers are low and the dates late, so by generation numbers the whole line comes before them.
+    """Checks how many commits a search for merge bases takes, by dates and without, in a checked graph and in a trusted one, and with a
+    newer commit on top of each of both that are compared. Of the branch's commits the generation numbers are low and the dates late, so
+    by generation numbers the whole line comes before them.
     """
     few, many = range(20), range(BEFORE, 3 * BEFORE)
+    ends = id_of(BEFORE + 4), id_of(BEFORE + 5)
+    newer, entries = children(ends)
     offsets = [0] * (BEFORE + 6)
     late = [*offsets[: BEFORE - 1], 1, *offsets[BEFORE:]]
     for name, further, checked, trusted in (
@@ -167,8 +171,18 @@ def check_branch(histories, results, path):
         with open(path, "wb") as file:
             file.write(examples.dated(branch(), *further))
         for how, ask, visits in (("", histories.merge_base, checked), (" --unchecked", histories.merge_base_unchecked, trusted)):
-            said = ask(path, id_of(BEFORE + 4), id_of(BEFORE + 5))
-            results.check("a branch with a root of its own, %s: merge-base%s" % (name, how), of_branch(visits, said))
+            results.check("a branch with a root of its own, %s: merge-base%s" % (name, how), of_branch(visits, ask(path, *ends)))
+        for options, visits in ((["--newer"], checked), (["--unchecked", "--newer"], many)):
+            said = histories.run("merge-base", *options, path, *newer, input=entries)
+            title = "a branch with a root of its own, %s: merge-base %s" % (name, " ".join(options))
+            results.check(title, of_branch(visits, said, newer))
+
+
+def children(parents):
+    """The ids of a commit that each of these is the parent of, and the entries of all of them."""
+    contents = [b"tree %s\nparent %s\nauthor A <a@b> 5 +0000\ncommitter A <a@b> 5 +0000\n\n" % (b"99" * 20, it.encode()) for it in parents]
+    ids = [hashlib.sha1(b"commit %d\0%s" % (len(content), content)).hexdigest() for content in contents]
+    return ids, b"".join(b"%s commit %d\n%s\n" % (it.encode(), len(content), content) for it, content in zip(ids, contents))
 
 
 def branch():
@@ -181,10 +195,13 @@ def branch():
     return line + branch + [(level, 1003 + BEFORE + place, parents) for place, (level, parents) in enumerate(zip(levels, above))]
 
 
-def of_branch(visits, said):
+def of_branch(visits, said, newer=()):
     """A complaint where the answer is another than that the line's last commit is the base, or where it took fewer or more visits than
-    a range has."""
-    told = "base %d %s\nahead 5 behind 1\nvisits " % (BEFORE - 1, id_of(BEFORE - 1))
+    a range has. These newer commits are asked for, of which each side has one.
+    """
+    asked = "".join(it + "\n" for it in newer) + "\n" if newer else ""
+    apart = (6, 2) if newer else (5, 1)
+    told = asked + "base %d %s\nahead %d behind %d\nvisits " % (BEFORE - 1, id_of(BEFORE - 1), *apart)
     found = re.fullmatch(re.escape(told) + r"(\d+)\n", said.out.decode())
     if said.status or said.err or not found:
         return "it tells %r" % (said,)

@@ -46,7 +46,7 @@ returns-clause-answer g c =
     let last = c.find_over-answer.new.newer.base.base.now in
     let ends : _ ≡ last = search rules in
     let found = c.find_over-answer.ensures.answer in
-    let may : MayAnswerOnTop newer.kind (count (known b)) (says last) (finds (facts b)) (has_id (facts b))
+    let may : MayAnswerOnTop newer.kind (count (known b)) (says last) (finds (facts b)) (has_id (facts b)) c.args.ranks
     (λ e. may_fail (known b) e ⊎ of_memory e) left asked requests r =
     record {
       none = newer.commits;
@@ -59,14 +59,14 @@ returns-clause-answer g c =
       c.find_over-answer.ensures.written,
       subst
           (λ e. MayAnswerOnTop c.args.kind (count (known now)) (says e) (finds (facts now)) (has_id (facts now))
-          (λ failure. may_fail (known now) failure ⊎ of_memory failure) left asked requests r)
+          c.args.ranks (λ failure. may_fail (known now) failure ⊎ of_memory failure) left asked requests r)
           (sym ends)
           (subst
           (λ s. MayAnswerOnTop c.args.kind (count (known s)) (says last) (finds (facts s)) (has_id (facts s))
-          (λ failure. may_fail (known s) failure ⊎ of_memory failure) left asked requests r)
+          c.args.ranks (λ failure. may_fail (known s) failure ⊎ of_memory failure) left asked requests r)
           lent
           (subst
           (λ (k : Kind). MayAnswerOnTop k (count (known b)) (says last) (finds (facts b)) (has_id (facts b))
-          (λ failure. may_fail (known b) failure ⊎ of_memory failure) left asked requests r)
+          c.args.ranks (λ failure. may_fail (known b) failure ⊎ of_memory failure) left asked requests r)
           c.new-newer.ensures.kind may)),
     )

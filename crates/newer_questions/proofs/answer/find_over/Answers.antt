@@ -34,7 +34,7 @@ returns-in-Ok-search-clause-answer g c =
             _ done.there done.all done.read c.requires.unread,
         subst
             (λ facts. IsReplyOnTop (g.S.CommitSource.says c.search.new.newer.base) (g.S.Base.finds facts)
-            (g.S.Base.has_id facts) mid.commits asked c.in-Ok-search.reply)
+            (g.S.Base.has_id facts) c.args.ranks mid.commits asked c.in-Ok-search.reply)
             (g.met.S.Base.follow mid.base old.base done.known) c.in-Ok-search.ensures.found,
       ),
     )

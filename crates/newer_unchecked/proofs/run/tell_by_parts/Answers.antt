@@ -3,7 +3,7 @@ use Rattle.std.proofs.Common.{◌≡◌, ◌∙◌, ℕ, List, Option, Some, Non
 use Rattle.graph_commands.specs.OpenerAnswer.{MayOpen}
 use Rattle.newer_commands.specs.AskedReply.{listed_verdict}
 use Rattle.newer_unchecked.specs.TrustedOnTop.{IsToldByParts}
-use Rattle.newer_unchecked.proofs.TellLemmas.{by_parts, counted_none, counted_read, tells_so, told_of_whole, told_read, told_with}
+use Rattle.newer_unchecked.proofs.TellLemmas.{by_parts, counted_none, counted_read, tells_so, told_of_whole, told_read}
 use Rattle.newer_unchecked.proofs.TellLemmas.{whole_read, whole_told}
 use Rattle.newer_unchecked.proofs.run.tell_by_parts.Goals as goal
 
@@ -22,7 +22,7 @@ returns-in-Some-clause-written g c =
     _ comes.1
     (λ told is.
     by_parts known path before after bytes question comes.0 (Some found) told (comes.2 path c.requires.graph)
-    (told_with found told is)
+    is
     (told_read (MayOpen known path) before after found told is
     (counted_read (MayOpen known path) before after found counted)))
     c.tell_at_last.ensures

@@ -36,7 +36,6 @@ returns-in-Ok-find_parents-clause-prepared g c =
             (rw c.in-Ok-None.field-0-is at c.in-Ok-None.ensures.found);
       };
       id = id_is;
-      time = c.newer_time-time.ensures;
       found =
           subst (λ (ids : List (List ℕ)). AreFoundParents (finds (facts base)) says top ids found) c.parents.ensures
           (subst (λ (f : g.S.Base.Facts). AreFoundParents (finds f) says top c.parents.result found) same
