@@ -1,6 +1,6 @@
 -- What is answered of the commits of a base and of newer ones on top of it. Whatever the base may say, a yes, a walk and a common
--- ancestor are there; where the generation numbers of the base count walks, or the corrected dates are right by which a search goes,
--- each answer is exact ("generation number" in Git's commit-graph design).
+-- ancestor are there; where the generation numbers of the base count walks, or the corrected dates are right by which a search
+-- goes, each answer is exact ("generation number" in Git's commit-graph design).
 use Rattle.std.specs.Prelude.{◌≡◌, ℕ, ◌*◌, ◌≤◌, List, All, Bool, IsTrue, Option, Some, None, Vec, length}
 use Rattle.std.specs.Global.{Global}
 use Rattle.std.specs.List.{AllZip}
@@ -49,7 +49,8 @@ abbrev pub ranking_over : Option (List ℕ) → List Node → Ranking
 ranking_over None history = by_generation history
 ranking_over (Some dates) history = ranking_on_top dates
 
--- so much of the base has to be right: its generation numbers count walks; or the dates, one for each commit, fall along all parents
+-- so much of the base has to be right: its generation numbers count walks; or the dates, one for each commit, fall along all
+-- parents
 abbrev pub AreRightNumbers : Option (List ℕ) → List Node → Type 0
 AreRightNumbers None history = CountWalks history
 AreRightNumbers (Some dates) history = (length dates ≡ length history) × FallsAlongParents history (by_date dates)

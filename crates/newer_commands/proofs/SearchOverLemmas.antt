@@ -54,7 +54,8 @@ module _ (layers : List Layer) (counts : CountWalks (history_of layers)) where
 module _ (layers : List Layer) (base : List ℕ → Option ℕ → Type 0) (has_id : ℕ → List ℕ → Type 0) (says : Told → Type 0)
     (top : CommitsOnTop) (scans : (id : List ℕ) (answer : Option ℕ) → base id answer → Scans layers id answer)
     (own : (p : ℕ) (id : List ℕ) → has_id p id → slice_get (graph_ids layers) p ≡ Some id)
-    (said : says (told_of layers)) (counts : CountWalks (history_of layers)) (dates : Option (List ℕ)) (given : IfSome dates (AreDatesOf layers)) where
+    (said : says (told_of layers)) (counts : CountWalks (history_of layers)) (dates : Option (List ℕ))
+    (given : IfSome dates (AreDatesOf layers)) where
   id_over : (p : ℕ) (id : List ℕ) → HasId has_id top p id → HasIdOver layers top p id
   id_over p id (inl below) = inl (below.0, own p id below.1)
   id_over p id (inr newer) = inr newer
@@ -118,8 +119,8 @@ module _ (layers : List Layer) (base : List ℕ → Option ℕ → Type 0) (has_
       found
 
   -- what is answered to a question is so of the history
-  pub reply_over : (asked : Question) (answer : Reply (Vec (List ℕ) Global)) → IsReplyOnTop says base has_id dates top asked answer
-      → IsReplyOver layers top asked (listed_reply answer)
+  pub reply_over : (asked : Question) (answer : Reply (Vec (List ℕ) Global))
+      → IsReplyOnTop says base has_id dates top asked answer → IsReplyOver layers top asked (listed_reply answer)
   reply_over (question.IsAncestor first second) (reply.Told told) found = told_found (first ∷ second ∷ []) told found
   reply_over (question.Walk first second) (reply.Walk walk) found = walk_found (first ∷ second ∷ []) walk found
   reply_over (question.MergeBase first others) (reply.Compared compared) found =

@@ -53,8 +53,8 @@ IsWalkOver layers top first second (Some ids) =
     (walk : List ℕ) × IsShortestWalk (history_over layers top) first second walk × AllZip (HasIdOver layers top) walk ids
 IsWalkOver layers top first second None = ¬ Reaches (history_over layers top) first second
 
--- a search may order all commits by these ranks: the generation numbers; or the corrected dates of the graph, and the newer commits
--- before all of its own
+-- a search may order all commits by these ranks: the generation numbers; or the corrected dates of the graph, and the newer
+-- commits before all of its own
 abbrev pub IsRankingOver : List Layer → CommitsOnTop → Ranking → Type 0
 IsRankingOver layers top ranking =
     (ranking ≡ by_generation (history_over layers top))

@@ -27,9 +27,9 @@ use std::alloc::Global;
 use std::io::{Read, Write};
 
 /// Answers a question that asks for a search: asks for all commits that are lacking, and then
-/// writes an empty line, and the lines of the answer, or why there is none. Merge bases are searched
-/// for by the ranks that are given, and without some by generation numbers. The answer is the exit
-/// status. `WriteFailed` comes where the writer fails.
+/// writes an empty line, and the lines of the answer, or why there is none. Merge bases are
+/// searched for by the ranks that are given, and without some by generation numbers. The answer is
+/// the exit status. `WriteFailed` comes where the writer fails.
 pub(crate) fn answer_over<R: Read, W: Write>(
     alloc: Global,
     kind: Kind,

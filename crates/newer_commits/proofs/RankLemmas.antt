@@ -1,7 +1,6 @@
 -- Ranks of newer commits, above the corrected dates of a base.
-use Rattle.std.proofs.Common.{◌≡◌, ℕ, suc, zero, ◌+◌, ◌-◌, ◌<◌, ◌≤◌, max, min, nat_lt, true, false, if◌then◌else◌, List, [], ◌∷◌}
-use Rattle.std.proofs.Common.{Contains, length, take, map}
-use Rattle.std.proofs.Common.{refl, sym, ap, ◌∙◌, subst, ⊎_elim, arith}
+use Rattle.std.proofs.Common.{◌≡◌, ℕ, suc, zero, ◌+◌, ◌-◌, ◌<◌, ◌≤◌, max, min, if◌then◌else◌, List, [], ◌∷◌}
+use Rattle.std.proofs.Common.{Contains, length, take, ap, subst, ⊎_elim, arith}
 use Rattle.std.proofs.lemmas.Bool.{cases_lt, le-ltb, lt-ltb}
 use Rattle.graph_walks.specs.Counts.{greatest}
 use Rattle.graph_walks.specs.Dates.{number_at}

@@ -1,5 +1,5 @@
--- The order of a search over a base and the newer commits on top of it: the commits of the base by their corrected dates, and each
--- newer one before all of these ("corrected commit date", generation number v2, and "generation number infinity" in Git's
+-- The order of a search over a base and the newer commits on top of it: the commits of the base by their corrected dates, and
+-- each newer one before all of these ("corrected commit date", generation number v2, and "generation number infinity" in Git's
 -- commit-graph design). Dates are in seconds since 1970-01-01 00:00:00 UTC.
 use Rattle.std.specs.Prelude.{ℕ, ◌+◌, ◌-◌, nat_lt, if◌then◌else◌, min, List, length}
 use Rattle.graph_walks.specs.Counts.{greatest}

@@ -37,5 +37,6 @@ module _ (says : Told → Type 0) (base : List ℕ → Option ℕ → Type 0) (h
       → IsReplyOnTop says base has_id dates top question (reply.Compared answer)
   bases_reply first others ids answer is same found =
       subst (λ (q : Question). IsReplyOnTop says base has_id dates top q (reply.Compared answer)) (sym is)
-      (subst (λ (those : List (List ℕ)). IsFoundOf (Finds base top) (OfFirst (IsComparedOnTop says has_id top dates)) those answer)
+      (subst
+      (λ (those : List (List ℕ)). IsFoundOf (Finds base top) (OfFirst (IsComparedOnTop says has_id top dates)) those answer)
       same found)

@@ -42,8 +42,8 @@ MayComeOnTop kind says base has_id dates may_fail known none top question asked 
 -- commits were asked for that are lacking, and then an answer comes, or why there is none. The reader has these bytes, where they
 -- are known.
 pub record MayAnswerOnTop {E : Type 0} (kind : Kind) (count : ℕ) (says : Told → Type 0) (base : List ℕ → Option ℕ → Type 0)
-    (has_id : ℕ → List ℕ → Type 0) (dates : Option (List ℕ)) (may_fail : E → Type 0) (known : Option (List ℕ)) (question : Question)
-    (asked : List (List ℕ)) (answer : Result (Reply (Vec (List ℕ) Global)) (CompleteError E)) : Type 0 where
+    (has_id : ℕ → List ℕ → Type 0) (dates : Option (List ℕ)) (may_fail : E → Type 0) (known : Option (List ℕ))
+    (question : Question) (asked : List (List ℕ)) (answer : Result (Reply (Vec (List ℕ) Global)) (CompleteError E)) : Type 0 where
   pub none : CommitsOnTop
   pub nothing : IsNothingOver count none
   pub top : CommitsOnTop

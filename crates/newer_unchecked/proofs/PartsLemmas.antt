@@ -1,12 +1,12 @@
 -- What comes of a question over the parts of a trusted graph is so of the graph at the path.
-use Rattle.std.proofs.Common.{◌≡◌, ◌⊎◌, ◌∙◌, ℕ, List, All, Option, Some, None, Vec, Result, Ok, Err, ap, slice_get, subst, sym}
+use Rattle.std.proofs.Common.{◌≡◌, ◌⊎◌, ◌∙◌, ℕ, List, All, Option, Some, None, Vec, Result, Ok, Err, ap, subst, sym}
 use Rattle.std.specs.Global.{Global}
 use Rattle.std.specs.Prelude.{⊤}
 use Rattle.std.specs.Option.{ForSome}
 use Rattle.gix_hash_core.specs.declared.kind.Kind.{Kind}
 use Rattle.graph_folder.specs.Tree.{Tree}
 use Rattle.graph_format.specs.Layer.{Layer}
-use Rattle.gix_commitgraph.specs.Graph.{graph_ids, total}
+use Rattle.gix_commitgraph.specs.Graph.{total}
 use Rattle.gix_commitgraph.specs.GraphLookup.{FoundIn}
 use Rattle.graph_layer.specs.declared.opening.error.OpenError.TheVariants.{Device}
 use Rattle.graph_parts.specs.PartFiles.{commits_in_all}

@@ -1,5 +1,5 @@
 -- From what comes of a question by parts to what is told.
-use Rattle.std.proofs.Common.{◌≡◌, ◌≢◌, ◌⊎◌, ◌∙◌, ℕ, List, [], Option, Some, None, ap, inl, inr, refl, subst, sym}
+use Rattle.std.proofs.Common.{◌≡◌, ◌≢◌, ◌⊎◌, ◌∙◌, ℕ, List, Option, Some, None, ap, inl, inr, refl, subst, sym}
 use Rattle.std.proofs.KnownBytes.{Appends-trans}
 use Rattle.std.specs.Global.{Global}
 use Rattle.std.specs.Io.KnownBytes.{Appends}
@@ -15,7 +15,6 @@ use Rattle.graph_unchecked.specs.Unread.{failures_after_reads}
 use Rattle.graph_unchecked.specs.declared.unread.Unread.{Unread}
 use Rattle.graph_unchecked.proofs.FailureLemmas.{risen-if}
 use Rattle.graph_unchecked.specs.declared.unread.Unread.TheVariants as unread
-use Rattle.answer_lines.specs.Replies.{listed_reply}
 use Rattle.answer_lines.specs.declared.reply.Form.{Form}
 use Rattle.answer_lines.specs.declared.reply.Reply.{Reply}
 use Rattle.graph_commands.specs.OpenerAnswer.{MayOpen}
@@ -138,7 +137,7 @@ module _ {X : Type 0} (listed : X → Option Verdict) (found : X) where
 
   -- it is told, or that one failed
   pub told_or_failed : (read : Result X Unread) (told : X) (Says : Option Verdict → Type 0) → Says (listed found)
-      → IfOk read (λ other. Ok found ≡ Ok other) → IfOk read (λ other. told ≡ other)
+      → IfOk read (λ other. ◌≡◌ {A = Result X Unread} (Ok found) (Ok other)) → IfOk read (λ other. told ≡ other)
       → OnErr read (listed told ≡ Some (Err (Common (Open Device))))
       → Says (listed told) ⊎ (listed told ≡ Some (Err (Common (Open Device))))
   told_or_failed (Ok other) told Says says same is failed =
@@ -147,14 +146,15 @@ module _ {X : Type 0} (listed : X → Option Verdict) (found : X) where
 
   -- and one has failed exactly where that is told
   pub told_counted : (old before after later : ℕ) → before ≡ old → later ≡ after → (read : Result X Unread) (told : X)
-      → IsPlain (listed found) → IfOk read (λ other. Ok found ≡ Ok other)
-      → IfErr read (λ error. (error ≡ unread.Device) ⊎ (Ok found ≡ Err error))
+      → IsPlain (listed found) → IfOk read (λ other. ◌≡◌ {A = Result X Unread} (Ok found) (Ok other))
+      → IfErr read (λ error. (error ≡ unread.Device) ⊎ ◌≡◌ {A = Result X Unread} (Ok found) (Err error))
       → after ≡ failures_after_reads read before → IfOk read (λ other. told ≡ other)
       → OnErr read (listed told ≡ Some (Err (Common (Open Device)))) → IsFailureCounted old later (listed told)
   told_counted old before after later from ends (Ok other) told plain same error counted is failed =
       inl (subst (λ (x : X). IsPlain (listed x)) (sym (is ∙ ok_found other same)) plain, ends ∙ counted ∙ from)
   told_counted old before after later from ends (Err error) told plain same (inl device) counted is failed =
-      inr (failed, ends ∙ risen-if (Err error) before after (ap (λ (e : Unread). Err e) device) counted ∙ ap one_more from)
+      let is : ◌≡◌ {A = Result X Unread} (Err error) (Err unread.Device) = ap (λ (e : Unread). Err e) device in
+      inr (failed, ends ∙ risen-if {A = X} (Err error) before after is counted ∙ ap one_more from)
   told_counted old before after later from ends (Err error) told plain same (inr other) counted is failed =
       let clash : ◌≡◌ {A = Result X Unread} (Ok found) (Err error) = other in cc
 

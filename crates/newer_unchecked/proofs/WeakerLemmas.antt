@@ -1,5 +1,5 @@
 -- What is answered over a base is so of another that says and finds what that one may.
-use Rattle.std.proofs.Common.{◌≡◌, ◌∙◌, ◌<◌, ℕ, List, [], ◌∷◌, All, Bool, Option, Some, None, Vec, inl, inr, subst, sym}
+use Rattle.std.proofs.Common.{◌≡◌, ◌∙◌, ℕ, List, [], ◌∷◌, All, Bool, Option, Some, None, Vec, inl, inr, subst, sym}
 use Rattle.std.specs.Global.{Global}
 use Rattle.std.specs.List.{AllZip}
 use Rattle.std.specs.Prelude.{Result, Ok, Err}
@@ -114,8 +114,8 @@ module _ (says less : Told → Type 0) (said : (t : Told) → less t → (before
       finds : (id : List ℕ) (answer : Option ℕ) → Finds base top id answer → Finds scans top id answer
       finds id answer found = finds_as base scans same top id answer found
 
-      pub reply_so : (question : Question) (answer : Reply (Vec (List ℕ) Global)) → IsReplyOnTop says base has None top question answer
-          → IsReplyOnTop less scans other None top question answer
+      pub reply_so : (question : Question) (answer : Reply (Vec (List ℕ) Global))
+          → IsReplyOnTop says base has None top question answer → IsReplyOnTop less scans other None top question answer
       reply_so (IsAncestor first second) (reply.Told told) is =
           found_same (Finds base top) (Finds scans top) finds (OfTwo (IsToldOnTop says top)) (OfTwo (IsToldOnTop less top))
           (first ∷ second ∷ []) told (two_so (λ x. x) (IsToldOnTop says top) (IsToldOnTop less top) told_so) is

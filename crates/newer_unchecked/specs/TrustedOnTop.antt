@@ -49,8 +49,8 @@ IsToldOfParts (Err (Lost id)) found = found ≡ None
 IsToldOfParts (Err error) found = (told : Result Verdict Unread) × IsVerdictOf error told × (found ≡ verdict_by_parts told)
 
 -- This may come of a question over the commits of these layers, of whose files parts are read: those commits were asked for that
--- are lacking; and then an answer comes, or why there is none; or it is told that a read of the files failed. The reader has these
--- bytes, where they are known.
+-- are lacking; and then an answer comes, or why there is none; or it is told that a read of the files failed. The reader has
+-- these bytes, where they are known.
 pub record MayComeByParts (layers : List Layer) (known : Option (List ℕ)) (question : Question) (asked : List (List ℕ))
     (found : Option Verdict) : Type 0 where
   pub kind : Kind
@@ -78,8 +78,8 @@ abbrev pub MayTellByParts : List Layer → Option (List ℕ) → Question → As
 MayTellByParts layers known question told =
     (found : Option Verdict) × MayComeByParts layers known question told.asked found × IsToldWith found told.verdict
 
--- what may be told while the count of failed reads goes from `before` to `after`: that one failed only where one did, of the whole
--- graph only what the opener may answer, and anything else only where none failed
+-- what may be told while the count of failed reads goes from `before` to `after`: that one failed only where one did, of the
+-- whole graph only what the opener may answer, and anything else only where none failed
 abbrev pub IsReadSo : (ℕ → ℕ → Result (List Layer) OpenError → Type 0) → ℕ → ℕ → Verdict → Type 0
 IsReadSo MayOpen before after (Err (Common (Open error))) =
     ((error ≡ Device) × (after ≡ one_more before)) ⊎ MayOpen before after (Err error)

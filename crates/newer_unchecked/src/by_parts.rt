@@ -3,6 +3,8 @@
 ghost use Rattle.std.specs.Prelude.{◌≡◌, ◌+◌, ◌<◌, ◌^◌, ℕ, Err, IfOk, List, OnErr, Some};
 ghost use Rattle.std.specs.Io.KnownBytes.{Appends};
 ghost use Rattle.std.specs.Option.{ForSome};
+ghost use Rattle.graph_commands.specs.declared.refusal.Refusal.TheVariants.{Open};
+ghost use Rattle.graph_layer.specs.declared.opening.error.OpenError.TheVariants.{Device};
 ghost use Rattle.graph_unchecked.specs.Trusted.{IsTrustedAt};
 ghost use Rattle.graph_unchecked.specs.Unchecked.{IsAnswerAt};
 ghost use Rattle.commit_requests.specs.Requested.{request_lines};

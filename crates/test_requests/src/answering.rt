@@ -51,7 +51,7 @@ fn compare_bases(rt: &impl Abort, alloc: Global, newer: &mut OnNone, row: &Compa
     let first = id_of(rt, first);
     let others = ids_of(rt, alloc, others);
     let mut comparer = FewComparer::new(alloc);
-    let found = compare(alloc, newer, &mut comparer, first.as_oid(), &others);
+    let found = compare(alloc, newer, &mut comparer, None, first.as_oid(), &others);
     let Answer::Known(known) = found.ok().expect(rt, "memory") else {
         rt.abort()
     };

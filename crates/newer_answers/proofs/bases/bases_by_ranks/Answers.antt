@@ -33,8 +33,10 @@ returns-clause-compared g c =
     let many = length old.commits.commits in
     let end : g.S.CommitSource.count (g.S.CommitSource.known old.base) + many ≡ end_of_top old.commits =
     ap (λ (n : ℕ). n + many) (sym old.below) in
-    let same = ap (λ (k : g.S.CommitSource.Known × g.S.Base.Facts × CommitsOnTop × Kind). k.2) c.compare_by-compared.ensures.known in
-    let visits : IfOk c.compare_by-compared.result (λ (compared : Comparison). compared.bases.visits ≤ 3 * end_of_top new.commits) =
+    let same =
+    ap (λ (k : g.S.CommitSource.Known × g.S.Base.Facts × CommitsOnTop × Kind). k.2) c.compare_by-compared.ensures.known in
+    let visits : IfOk c.compare_by-compared.result
+    (λ (compared : Comparison). compared.bases.visits ≤ 3 * end_of_top new.commits) =
     IfOk-weaker c.compare_by-compared.result _ _ (λ compared most.
     subst (λ (t : CommitsOnTop). compared.bases.visits ≤ 3 * end_of_top t) (sym same)
     (subst (λ (n : ℕ). compared.bases.visits ≤ 3 * n) end most))

@@ -19,7 +19,8 @@ returns-in-Ok g c =
       answer.1 (λ is. cc),
       reply_tells (layers_of_base old) (LooksUp old.base) (HasIdBelow old.base) (SaysBelow new.base)
           (scans_base old c.requires.right) (ids_base old) (says_base new old (same_base new old c.in-Ok.ensures.known))
-          (counts_base old c.requires.right) c.args.ranks c.requires.dates _ _ (total_base old) c.args.kind known c.args.question.now c.requires.kind
+          (counts_base old c.requires.right) c.args.ranks c.requires.dates _ _ (total_base old)
+          c.args.kind known c.args.question.now c.requires.kind
           answer.0 c.in-Ok.reply answer.2,
     )
 
@@ -31,7 +32,8 @@ verdict_of-requires-clause-kept g c = λ id is.
     let answer = c.in-Err.ensures.answer in
     lost_never (layers_of_base old) (LooksUp old.base) (HasIdBelow old.base) (SaysBelow new.base)
     (scans_base old c.requires.right) (ids_base old) (says_base new old (same_base new old c.in-Err.ensures.known))
-    (counts_base old c.requires.right) c.args.ranks c.requires.dates _ _ (total_base old) c.args.kind known c.args.question.now c.requires.kind answer.0
+    (counts_base old c.requires.right) c.args.ranks c.requires.dates _ _ (total_base old)
+    c.args.kind known c.args.question.now c.requires.kind answer.0
     c.in-Err.error id answer.2 is
 
 pub returns-in-Ok-2 : goal.returns-in-Ok-2
@@ -45,7 +47,8 @@ returns-in-Ok-2 g c =
       told_written c.in-Err.error (listed_told c.in_ok-verdict-in-Err.field-0) _ told answer.1,
       error_tells (layers_of_base old) (LooksUp old.base) (HasIdBelow old.base) (SaysBelow new.base)
           (scans_base old c.requires.right) (ids_base old) (says_base new old (same_base new old c.in-Err.ensures.known))
-          (counts_base old c.requires.right) c.args.ranks c.requires.dates _ _ (total_base old) c.args.kind known c.args.question.now c.requires.kind
+          (counts_base old c.requires.right) c.args.ranks c.requires.dates _ _ (total_base old)
+          c.args.kind known c.args.question.now c.requires.kind
           answer.0 c.in-Err.error (listed_verdict c.in-Ok-2.verdict) answer.2 (rw c.in-Ok-2.is at told),
     )
 
@@ -63,6 +66,7 @@ returns-in-Err-2 g c =
           (sym (ap listed_verdict c.no_memory.ensures))
           (memory_tells (layers_of_base old) (LooksUp old.base) (HasIdBelow old.base) (SaysBelow new.base)
           (scans_base old c.requires.right) (ids_base old) (says_base new old (same_base new old c.in-Err.ensures.known))
-          (counts_base old c.requires.right) c.args.ranks c.requires.dates _ _ (total_base old) c.args.kind known c.args.question.now c.requires.kind
+          (counts_base old c.requires.right) c.args.ranks c.requires.dates _ _ (total_base old)
+          c.args.kind known c.args.question.now c.requires.kind
           answer.0 c.in-Err.error answer.2),
     )

@@ -26,7 +26,8 @@ pub returns-in_ok-compared-in-MergeBase-clause-found : goal.returns-in_ok-compar
 returns-in_ok-compared-in-MergeBase-clause-found g c =
     let old = c.args.newer.now in
     let facts = g.S.Base.facts old.base in
-    bases_reply (g.S.CommitSource.says c.compare.new.commits.base) (g.S.Base.finds facts) (g.S.Base.has_id facts) c.args.ranks old.commits
+    bases_reply (g.S.CommitSource.says c.compare.new.commits.base) (g.S.Base.finds facts) (g.S.Base.has_id facts)
+    c.args.ranks old.commits
     c.args.question.now c.in-MergeBase.first c.in-MergeBase.others
     (oid_bytes c.as_oid-first-in-MergeBase.result ∷ c.deref.result.now) c.in_ok-compared-in-MergeBase.compared c.in-MergeBase.is
     (rw (c.as_oid-first-in-MergeBase.ensures, c.deref.ensures.value) refl) c.in_ok-compared-in-MergeBase.ensures.found

@@ -1,5 +1,5 @@
 -- What comes by parts is so of the graph at the path, and a failed read is told where one failed.
-use Rattle.std.proofs.Common.{◌≡◌, ◌≢◌, ◌⊎◌, ◌∙◌, None, ap, refl, subst, sym}
+use Rattle.std.proofs.Common.{rules, ◌≡◌, ◌≢◌, ◌⊎◌, ◌∙◌, None, ap, subst, sym}
 use Rattle.graph_folder.specs.Tree.{Tree}
 use Rattle.std.specs.Prelude.{Option}
 use Rattle.graph_parts.specs.PartFiles.{commits_in_all}
@@ -47,15 +47,18 @@ returns-clause-found g c =
           (λ (k : KnownParts). MayAnswerOnTop c.kind-kind.result (commits_in_all k.files) (PartsTell now new.parts.now)
           (IsFoundByParts k) (IsIdByParts k) None may_fail bytes question answer.0 outcome)
           c.new-commits.ensures.known answer.2)
-          (told_or_failed listed_found c.in_ok-found.found c.unless_failed.result c.told_unless.result (IsToldOfParts outcome) told
+          (told_or_failed listed_found c.in_ok-found.found c.unless_failed.result c.told_unless.result (IsToldOfParts outcome)
+          told
           c.unless_failed.ensures.answer c.told_unless.ensures.found c.told_unless.ensures.failed),
     )
 
 pub returns-clause-counted : goal.returns-clause-counted
 returns-clause-counted g c =
     let same = c.answer_on_top-outcome.ensures.known ∙ c.new-commits.ensures.known in
-    told_counted listed_found c.in_ok-found.found (g.T.Folder.failure_count c.args.folder.now) _ _ _
-    (ap (λ (k : KnownParts). k.failures) same) refl c.unless_failed.result c.told_unless.result
+    let after = g.T.Folder.failure_count c.answer_on_top-outcome.new.base.folder.now in
+    let ends : _ ≡ after = search rules in
+    told_counted listed_found c.in_ok-found.found (g.T.Folder.failure_count c.args.folder.now) _ after _
+    (ap (λ (k : KnownParts). k.failures) same) ends c.unless_failed.result c.told_unless.result
     (is_plain c.answer_on_top-outcome.result (listed_found c.in_ok-found.found) c.in_ok-found.ensures.told)
     c.unless_failed.ensures.answer c.unless_failed.ensures.error c.unless_failed.ensures.failures c.told_unless.ensures.found
     c.told_unless.ensures.failed

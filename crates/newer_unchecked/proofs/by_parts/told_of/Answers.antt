@@ -1,5 +1,5 @@
 -- An error is told as its verdict.
-use Rattle.std.proofs.Common.{◌≡◌, Ok}
+use Rattle.std.proofs.Common.{Ok}
 use Rattle.newer_commands.specs.AskedReply.{listed_verdict}
 use Rattle.newer_unchecked.proofs.TellLemmas.{error_told}
 use Rattle.newer_unchecked.proofs.by_parts.told_of.Goals as goal

@@ -1,5 +1,5 @@
 -- What is told by parts, or at once, or over a graph that is checked.
-use Rattle.std.proofs.Common.{◌≡◌, ◌∙◌, ℕ, List, Option, Some, ap, inl, inr, option_map, sym, subst}
+use Rattle.std.proofs.Common.{◌≡◌, ℕ, List, Option, Some, ap, inl, inr, option_map, sym, subst}
 use Rattle.std.specs.Prelude.{IfOk}
 use Rattle.graph_commands.specs.OpenerAnswer.{MayOpen}
 use Rattle.graph_commands.specs.WrittenAnswer.{WritesAnswer}

@@ -1,5 +1,5 @@
 -- What came by parts is told; or where they do not suffice, what is said of the whole graph.
-use Rattle.std.proofs.Common.{◌≡◌, ◌∙◌, ℕ, List, Option, Some, None, Err, ap, subst, sym}
+use Rattle.std.proofs.Common.{Some, None, Err}
 use Rattle.graph_commands.specs.OpenerAnswer.{MayOpen}
 use Rattle.newer_commands.specs.AskedReply.{listed_verdict}
 use Rattle.newer_unchecked.specs.TrustedOnTop.{IsToldByParts}
