@@ -74,7 +74,7 @@ pass_bytes_on() {
     fi
 }
 
-# As `pass_on`, behind the ids of commits that are asked for, and the empty line that ends them.
+# As `pass_on`, behind the ids of objects that are asked for, and the empty line that ends them.
 pass_ids_on() {
     while IFS= read -r id; do
         printf '%s\n' "$id"
@@ -160,7 +160,7 @@ look_at_graph() {
         [ -z "$file" ] || where="the chain file is '$file'"
         ;;
     'refused file '*) [ ! -f "$asked_path" ] || where="the file is '$asked_path'" ;;
-    'refused open 5 layer '* | 'refused verify '* | 'refused dates '* | 'refused filters '*) name_layer_at "$asked_path" ;;
+    'refused open 5 layer '* | 'refused verify '* | 'refused dates '* | 'refused filters '* | 'refused paths 11 '*) name_layer_at "$asked_path" ;;
     esac
 }
 

@@ -36,6 +36,15 @@ is_id() {
     [ ${#1} -eq 40 ] || [ ${#1} -eq 64 ]
 }
 
+# Whether a word is a number below 2^32, as it is printed.
+is_number() {
+    case $1 in
+    0) return ;;
+    '' | 0* | *[!0-9]*) return 1 ;;
+    esac
+    [ ${#1} -lt 10 ] || { [ ${#1} -eq 10 ] && [ "$1" -le 4294967295 ]; }
+}
+
 # Whether a word is a command of the program `name`.
 is_own() {
     look_up "$1" && [ "$tool" = "$name" ]
@@ -51,6 +60,10 @@ is_command() {
         [ "${1-}" != --newer ] || return 1
         ;;
     newer,--unchecked) shift ;;
+    limited,--trees)
+        is_number "${2-}" && [ $# -gt 2 ] || return 1
+        shift 2
+        ;;
     esac
     if [ "$reads" = newer ] && [ "${1-}" = --newer ]; then
         shift
@@ -59,9 +72,9 @@ is_command() {
         return
     fi
     case $reads,$# in
-    path,0 | trusted,0 | newer,0) return 1 ;;
+    path,0 | trusted,0 | newer,0 | limited,0) return 1 ;;
     optional,0) ;;
-    path,* | trusted,* | newer,* | optional,*) shift ;;
+    path,* | trusted,* | newer,* | limited,* | optional,*) shift ;;
     esac
     takes_ids $#
 }
@@ -90,6 +103,7 @@ usage() {
             if ($3 == "path") printf " PATH"
             if ($3 == "trusted") printf " [--unchecked] PATH"
             if ($3 == "newer") printf " [--unchecked] [--newer] PATH"
+            if ($3 == "limited") printf " [--trees N] PATH"
             if ($3 == "optional") printf " [PATH]"
             for (id = 1; id <= $4 + 0; id++) printf " HEX"
             if ($4 ~ /\+/) printf ".."
@@ -112,6 +126,7 @@ END
         echo 'With --unchecked the graph is trusted: it is read by parts, and not checked.'
         echo 'With --newer the commits that the graph lacks are asked for, by their ids, on'
         echo 'standard output, and read from standard input. PATH may be left out then.'
+        echo 'paths asks for trees in the same way, for each commit N at most.'
     fi
     echo
     awk -v name="$name" '

@@ -94,6 +94,20 @@ def padding(size):
     return small(KIND, "padding", padding=size)
 
 
+def trees(size):
+    """A line of `size` commits, each of which changes one of eight files, with filters that have one bit less than all: no path needs it."""
+    written, most = (partial(eight_files, size=ID_SIZE[KIND]), b"\xfe" + b"\xff" * 31)
+    plan = Plan(KIND, [(), *((number,) for number in range(size))], [size, 1], filters=dict.fromkeys(range(size), most), trees=written)
+    return Shape("trees", plan, range(size - 1, -1, -1), (size - 1, 0), (size - 1, [0], [0], size - 1, 0))
+
+
+def eight_files(number, size):
+    """A tree of files `f0` up to `f7`, of which that at the number, modulo 8, has the number as its id, and those before it the ones
+    before."""
+    latest = [(max(0, (number - place) // 8 * 8 + place) + 1).to_bytes(size, "big") for place in range(8)]
+    return b"".join(b"100644 f%d\0%s" % (place, name) for place, name in enumerate(latest))
+
+
 def filters(size):
     """Commits of which one has a filter of `size` bytes."""
     return small(KIND, "filters", filters={1: b"\0\xff" * (size // 2), 2: b"\xff"})

@@ -12,7 +12,7 @@ from sizes import table as asked
 
 SIZES = {
     **{"lines": 500, "layers": 25, "alike": 25, "parents": 200, "lists": 100, "prefix": 1000, "steps": 1000, "tower": 1000},
-    **{"marks": 100_000, "message": 300_000, "padding": 300_000, "filters": 100_000},
+    **{"marks": 100_000, "message": 300_000, "padding": 300_000, "filters": 100_000, "trees": 500},
 }
 """Each shape, and the first of its three sizes."""
 
@@ -110,6 +110,10 @@ STATED = (
     Row("objects", ("parents",), LINEAR.at_most(32), IN_STEPS.at_most(5)),
     Row("objects", ("marks",), LINEAR, LINEAR.at_most(5)),
     Row("objects", ("lists",), BY_PARENTS, LINEAR),
+    Row("paths", ("lines", "lists", *FEW), LINEAR.at_most(ONCE), LINEAR),
+    Row("paths", ("layers",), BY_BYTES.at_most(ONCE_IN_LAYERS), LINEAR),
+    # Each tree is hashed once, and read twice: as that of a commit, and as that of a parent.
+    Row("paths", ("trees",), LINEAR.at_most(65), LINEAR),
     Row("write", ("lines", "message"), LINEAR.at_most(40), LINEAR.at_most(5)),
     Row("write", ("parents",), LINEAR.at_most(40), IN_STEPS.at_most(5)),
     Row("write", ("marks",), LINEAR, LINEAR.at_most(5)),

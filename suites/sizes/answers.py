@@ -102,8 +102,9 @@ def parents(shape, number):
 
 
 def status(wanted):
-    """The exit status of a command that answers these bytes: 1 after `no` and `none`."""
-    return 1 if wanted.rpartition(b"\n")[0].rpartition(b"\n")[2] in (b"no", b"none") else 0
+    """The exit status of a command that answers these bytes: 1 after `no` and `none`, and after a refusal."""
+    last = wanted.rpartition(b"\n")[0].rpartition(b"\n")[2]
+    return 1 if last in (b"no", b"none") or last.startswith(b"refused ") else 0
 
 
 def complaint(wanted, status, told):

@@ -36,9 +36,13 @@ class Plan:
     each layer, the lowest first. `person` and `message` give what stands in a commit of a number, and `ids` its id where it is not to
     be the digest of the commit. `filters` has for each commit the bytes of its filter, where there are any, and `padding` is the size of
     a chunk that nothing reads, in the lowest layer. `shared` are parents that stand once in the list of further parents of the lowest
-    layer: each commit with more than two parents has some of the last of them behind its first."""
+    layer: each commit with more than two parents has some of the last of them behind its first. `trees` gives the contents of the root
+    tree of a commit, where it is to have one that there is."""
 
-    def __init__(self, kind, parents, layers, person=person_of, message=message_of, ids=None, filters=None, padding=0, shared=()):
+    def __init__(
+        self, kind, parents, layers, person=person_of, message=message_of, ids=None, filters=None, padding=0, shared=(), trees=None
+    ):
+        self.trees = trees
         self.kind, self.size, self.count = kind, ID_SIZE[kind], len(parents)
         self.parents, self.layers, self.shared = parents, layers, shared
         self.person, self.message, self.filters, self.padding = person, message, filters, padding
@@ -65,7 +69,17 @@ class Plan:
 
     def tree(self, number):
         """The id of a commit's root tree."""
-        return (number + 1).to_bytes(self.size, "big")
+        if not self.trees:
+            return (number + 1).to_bytes(self.size, "big")
+        contents = self.trees(number)
+        return getattr(hashlib, self.kind)(b"tree %d\0" % len(contents) + contents).digest()
+
+    def tree_entry(self, number):
+        """What `git cat-file --batch` writes of a commit's root tree, also where there is none."""
+        if not self.trees:
+            return b"%s missing\n" % self.tree(number).hex().encode()
+        contents = self.trees(number)
+        return b"%s tree %d\n%s\n" % (self.tree(number).hex().encode(), len(contents), contents)
 
     def levels(self):
         """The generation numbers and the corrected dates."""

@@ -1,13 +1,14 @@
 """The table: each command, each question and each call of the library for C, the shapes that it is asked about, and what it has to
 answer of each by the plan. What is new joins by a row.
 
-A row of a command has its words, and a function each for what standard input has and for the answer; the status is 1 after `no` and
-`none`, and else 0. A row of a question has its line. A row of a call has a function of `exports.py` or one here, which makes the call,
+A row of a command has its words, and a function each for what standard input has and for the answer; the status is 1 after `no`,
+`none` and a refusal, and else 0. A row of a question has its line. A row of a call has a function of `exports.py` or one here, which makes the call,
 and gives what was answered beside what it has to be. A call of Rust is made by `test_calls`, in a folder with the files that it needs.
 """
 
 import collections
 import ctypes
+import os
 from typing import Any, Callable, NamedTuple, Tuple
 
 from sizes import answers, exports
@@ -136,6 +137,35 @@ def compared_newest(shape):
     return answers.lines([base, "ahead %d behind 0" % ahead, "visits %d-%d" % (ahead, 3 * shape.plan.count)])
 
 
+def checked_pairs(shape):
+    """The commits whose filters need trees, by their positions, each behind its first parent, if it has one."""
+    filters = shape.plan.filters or {}
+    return [[*shape.plan.parents[number][:1], number] for number in shape.order() if filters.get(number, b"").strip(b"\xff")]
+
+
+def asked_trees(shape):
+    """The commits whose root trees are asked for, in order: each once, and where there are no trees the first alone."""
+    asked = list(dict.fromkeys(number for pair in checked_pairs(shape) for number in pair))
+    return asked if shape.plan.trees else asked[:1]
+
+
+def trees(shape):
+    """The file with what Git writes of these trees."""
+    place = os.path.join(shape.folder, "trees")
+    with open(place, "wb") as file:
+        file.writelines(map(shape.plan.tree_entry, asked_trees(shape)))
+    return place
+
+
+def held(shape):
+    """The lines that ask for these trees, an empty one, and what is told of the filters, which are right where there are trees."""
+    ids = [shape.plan.tree(number).hex() for number in asked_trees(shape)]
+    lacking = ids and not shape.plan.trees
+    position = shape.plan.positions[checked_pairs(shape)[0][-1]] if lacking else None
+    told = "refused paths 4 position %d id %s" % (position, ids[0]) if lacking else answers.checked(shape).splitlines()[-1]
+    return answers.lines([*ids, "", told])
+
+
 def yes(shape):
     return "yes\n"
 
@@ -258,6 +288,7 @@ COMMANDS = (
     Row("ids: half", UNREAD, path(half), last_ids),
     Row("objects", UNREAD, path(), counted, stored),
     Row("objects: half", UNREAD, path(half), counted_half, stored_half),
+    Row("paths", UNREAD, path(), held, trees),
     Row("write", UNREAD, lambda shape: [], lambda shape: shape.one_file(), stored),
     Row("write: on top", UNREAD, lambda shape: [shape.below], lambda shape: shape.written, added),
     Row("merge", UNREAD, path(), lambda shape: shape.one_file(shape.plan.filters)),

@@ -36,7 +36,7 @@ class Command(NamedTuple):
     def operands(self, number=None) -> List[str]:
         """A path, if the command reads one or may read one before ids, and so many ids, or as few as it takes."""
         ids = self.least() if number is None else number
-        has_path = self.reads == "path" or self.may_be_unchecked() or self.reads == "optional" and ids > 0
+        has_path = self.reads in ("path", "limited") or self.may_be_unchecked() or self.reads == "optional" and ids > 0
         return ["."] * has_path + [str(number) for number in range(ids)]
 
 
@@ -53,6 +53,7 @@ def usage(program):
     parts = []
     for command in commands(program):
         words = {"path": "PATH", "optional": "[PATH]", "trusted": "[--unchecked] PATH", "newer": "[--unchecked] [--newer] PATH"}
+        words["limited"] = "[--trees N] PATH"
         path = words.get(command.reads, "").split()
         more = ".." if command.takes_more() else " [FROM TO]" if command.takes_range() else ""
         parts.append(" ".join([command.word, *path, *["HEX"] * command.least()]) + more)

@@ -19,6 +19,10 @@ class Wrapper(NamedTuple):
     commands: Dict[str, List[str]]
 
 
+WITHOUT_NUMBER = (["--trees", "."], ["--trees", "1"], *(["--trees", number, "."] for number in ("", "x", "01", "-1", "4294967296")))
+"""Words behind a command that takes a path and, behind `--trees`, a number: they lack one of both."""
+
+
 def wrapper_of(name):
     """The wrapper of a program. Words that are no command have too few or too many operands, or are none of its own."""
     own = commands(name)
@@ -28,6 +32,7 @@ def wrapper_of(name):
     wrong += [[command.word, *command.operands(command.least() + 1)] for command in own if not command.takes_more()]
     wrong += [[command.word, "--unchecked", *command.operands()[:-1]] for command in own if command.may_be_unchecked()]
     wrong += [[command.word, "--newer", *command.operands()[:-1]] for command in own if command.reads == "newer"]
+    wrong += [[command.word, *words] for command in own if command.reads == "limited" for words in WITHOUT_NUMBER]
     return Wrapper(name, wrong, {command.word: command.operands(command.least() + command.takes_more()) for command in own})
 
 
@@ -124,6 +129,12 @@ def check_passing(results, wrapper, clone):
                 words = [command.word, *options, *path, *["ab" * 20] * command.least()]
                 answer = exactly(clone.run([wrapper.name, *words]), 0, "\nline %s\n" % " ".join(words))
                 results.check(" ".join([wrapper.name, command.word, *options, *path]), answer)
+        if command.reads == "limited":
+            for options in ([], ["--trees", "0"], ["--trees", "4294967295"]):
+                words = [command.word, *options, *command.operands()]
+                clone.put_program(wrapper.name, 'echo line "$@"\n')
+                answer = exactly(clone.run([wrapper.name, *words]), 0, "line %s\n" % " ".join(words))
+                results.check(" ".join([wrapper.name, *words]), answer)
     clone.put_program(wrapper.name, "echo why >&2\nexit 2\n")
     answer = clone.run([wrapper.name, *first_command(wrapper)])
     results.check("%s, what the program says on standard error" % wrapper.name, exactly(answer, 2, "", "why\n"))

@@ -6,7 +6,7 @@ use Rattle.hex.proofs.HexLemmas.{decode_of-ok}
 use Rattle.gix_hash_core.specs.Hexadecimal.{SpellsId, SpellsNone}
 use Rattle.gix_hash_core.specs.declared.object_id.IdError.{IdError}
 use Rattle.gix_hash_core.specs.declared.object_id.IdError.TheVariants.{Length, Digit}
-use Rattle.std.specs.Prelude.{◌↔◌, String, Option, Some, None, IfSome, IfOk, IfErr, IsTrue, codes}
+use Rattle.std.specs.Prelude.{◌↔◌, ◌^◌, String, Option, Some, None, IfSome, IfOk, IfErr, IsTrue, codes, decimal}
 use Rattle.std.specs.Prelude.{Bool, Result, Ok, Err, is_ok}
 use Rattle.std.specs.Global.{Global}
 use Rattle.object_commands.specs.AskedRange.{SpellsRange}
@@ -58,6 +58,8 @@ named_alone help version name (command.Ids path None) is = let e = is in cc
 named_alone help version name (command.Ids path (Some range)) is = let e = is.2 in cc
 named_alone help version name (command.Objects path None) is = let e = is in cc
 named_alone help version name (command.Objects path (Some range)) is = let e = is.2 in cc
+named_alone help version name (command.Paths path None) is = let e = is.0 in cc
+named_alone help version name (command.Paths path (Some trees)) is = let e = is.0 in cc
 named_alone help version name (command.Write None) is = let e = is in inr (inr (inr cc))
 named_alone help version name (command.Write (Some path)) is = let e = is in cc
 named_alone help version name (command.Merge path) is = let e = is in cc
@@ -66,7 +68,7 @@ named_alone help version name (command.Merge path) is = let e = is in cc
 pub named_with_path : (help version name path : List ℕ) (asked : Command) → AskAfterName help version (name ∷ path ∷ []) asked
     → (name ≡ codes "check") ⊎ (name ≡ codes "show") ⊎ ((name ≡ codes "ask") × (¬ IsOption path))
     ⊎ (name ≡ codes "ids") ⊎ (name ≡ codes "objects")
-    ⊎ (name ≡ codes "write") ⊎ (name ≡ codes "merge")
+    ⊎ (name ≡ codes "write") ⊎ (name ≡ codes "merge") ⊎ ((name ≡ codes "paths") × (path ≢ codes "--trees"))
 named_with_path help version name path (command.Help text) is = elim is.0 [ inl e ↦ cc | inr e ↦ cc ]
 named_with_path help version name path (command.Version text) is = let e = is.0 in cc
 named_with_path help version name path (command.IsAncestor pair) is =
@@ -91,9 +93,13 @@ named_with_path help version name path (command.Ids at None) is = let e = is in 
 named_with_path help version name path (command.Ids at (Some range)) is = let e = is.2 in cc
 named_with_path help version name path (command.Objects at None) is = let e = is in inr (inr (inr (inr (inl cc))))
 named_with_path help version name path (command.Objects at (Some range)) is = let e = is.2 in cc
+named_with_path help version name path (command.Paths at None) is =
+    let e = is.0 in let same : at.now ≡ path = cc in
+    inr (inr (inr (inr (inr (inr (inr (cc, subst (λ (p : List ℕ). p ≢ codes "--trees") same is.1)))))))
+named_with_path help version name path (command.Paths at (Some trees)) is = let e = is.0 in cc
 named_with_path help version name path (command.Write None) is = let e = is in cc
 named_with_path help version name path (command.Write (Some at)) is = let e = is in inr (inr (inr (inr (inr (inl cc)))))
-named_with_path help version name path (command.Merge at) is = let e = is in inr (inr (inr (inr (inr (inr cc)))))
+named_with_path help version name path (command.Merge at) is = let e = is in inr (inr (inr (inr (inr (inr (inl cc))))))
 
 just_one : (others : List (String Global)) (other : List ℕ) → map string_bytes others ≡ other ∷ [] → length others ≡ 1
 just_one others other are = sym (length-map others string_bytes) ∙ ap length are
@@ -127,6 +133,11 @@ abbrev pub AskOfRange : List ℕ → List (String Global) → Type 0
 AskOfRange first others =
     (to : List ℕ) × (range : PositionRange) × (map string_bytes others ≡ to ∷ []) × SpellsRange first to range
 
+-- the words of `paths --trees`
+abbrev pub AskOfTrees : List ℕ → List ℕ → List (String Global) → Type 0
+AskOfTrees option number others =
+    (trees : ℕ) × (option ≡ codes "--trees") × (number ≡ decimal trees) × (trees < 2 ^ 32) × (length others ≡ 1)
+
 -- which name asks with a path and ids, and with which words
 abbrev pub NamedWithIds : List ℕ → List ℕ → List ℕ → List (String Global) → Type 0
 NamedWithIds name path first others =
@@ -134,6 +145,7 @@ NamedWithIds name path first others =
     ⊎ (IsOfRange name × AskOfRange first others)
     ⊎ (IsOfMany name × AskOfMany name (name ∷ path ∷ first ∷ map string_bytes others))
     ⊎ ((name ≡ codes "ask") × (path ≡ codes "--unchecked") × (first ≢ codes "--newer") × (others ≡ []))
+    ⊎ ((name ≡ codes "paths") × AskOfTrees path first others)
 
 -- the name of a question is the first of its words
 named : (name other one : List ℕ) (graph : AskedGraph) (more rest : List (List ℕ))
@@ -188,7 +200,7 @@ named_with_ids help version name path first others (command.Show at) is = let e 
 named_with_ids help version name path first others (command.Ask at) is = let e = is.0 in cc
 named_with_ids help version name path first others (command.AskUnchecked at) is =
     let e = is.0 in
-    let none : map string_bytes others ≡ [] = cc in inr (inr (inr (cc, cc, λ newer. is.1 cc, no_others others none)))
+    let none : map string_bytes others ≡ [] = cc in inr (inr (inr (inl (cc, cc, λ newer. is.1 cc, no_others others none))))
 named_with_ids help version name path first others (command.Ids at None) is = let e = is in cc
 named_with_ids help version name path first others (command.Ids at (Some range)) is =
     let both = range_asked name first is.0 is.1 (codes "ids") path at.now others range is.2 is.3 in
@@ -197,6 +209,11 @@ named_with_ids help version name path first others (command.Objects at None) is 
 named_with_ids help version name path first others (command.Objects at (Some range)) is =
     let both = range_asked name first is.0 is.1 (codes "objects") path at.now others range is.2 is.3 in
     inr (inl (inr both.0, both.1))
+named_with_ids help version name path first others (command.Paths at None) is = let e = is.0 in cc
+named_with_ids help version name path first others (command.Paths at (Some trees)) is =
+    let e = is.0 in
+    let one : map string_bytes others ≡ at.now ∷ [] = cc in
+    inr (inr (inr (inr (cc, (trees, cc, cc, is.1, just_one others at.now one)))))
 named_with_ids help version name path first others (command.Write None) is = let e = is in cc
 named_with_ids help version name path first others (command.Write (Some at)) is = let e = is in cc
 named_with_ids help version name path first others (command.Merge at) is = let e = is in cc
@@ -314,6 +331,8 @@ none_asked help version (command.Ids path None) is = let e = is in cc
 none_asked help version (command.Ids path (Some range)) is = let e = is.2 in cc
 none_asked help version (command.Objects path None) is = let e = is in cc
 none_asked help version (command.Objects path (Some range)) is = let e = is.2 in cc
+none_asked help version (command.Paths path None) is = let e = is.0 in cc
+none_asked help version (command.Paths path (Some trees)) is = let e = is.0 in cc
 none_asked help version (command.Write None) is = let e = is in cc
 none_asked help version (command.Write (Some path)) is = let e = is in cc
 none_asked help version (command.Merge path) is = let e = is in cc

@@ -1,7 +1,7 @@
 -- The commands of `historytool`: which words ask for each, and what it may write. The table tables/commands lists the words:
 -- is-ancestor PATH HEX HEX, ids PATH [FROM TO] and so on; beside these --help or -h, and --version.
 use Rattle.std.specs.Prelude.{◌≡◌, ◌≢◌, ◌⊎◌, ℕ, List, [], ◌∷◌, Some, None, codes, map, string_bytes, Result, Option}
-use Rattle.std.specs.Prelude.{option_map}
+use Rattle.std.specs.Prelude.{◌<◌, ◌^◌, decimal, option_map}
 use Rattle.gix_hash_core.specs.Hexadecimal.{SpellsId}
 use Rattle.object_commands.specs.AskedRange.{SpellsRange}
 use Rattle.historytool.specs.declared.command.Command.{Command}
@@ -13,6 +13,7 @@ use Rattle.graph_commands.specs.WrittenAnswer.{WritesAnswer}
 use Rattle.show_commands.specs.Show.{MayShow, show_text, show_status}
 use Rattle.object_commands.specs.CommitIds.{MayListIds, ids_text, ids_status}
 use Rattle.object_commands.specs.ComparedObjects.{MayCompareObjects, objects_text, objects_status}
+use Rattle.path_commands.specs.ToldPaths.{MayTellPaths, most_trees, paths_text, paths_status}
 use Rattle.question_commands.specs.Asking.{MayAsk, ask_text, ask_status}
 use Rattle.write_commands.specs.LayerAnswer.{written_text, written_status}
 use Rattle.write_commands.specs.WrittenCommits.{MayWriteLayer}
@@ -85,6 +86,10 @@ AskAfterName help version words (command.Ids path (Some range)) =
 AskAfterName help version words (command.Objects path None) = words ≡ codes "objects" ∷ path.now ∷ []
 AskAfterName help version words (command.Objects path (Some range)) =
     (from to : List ℕ) × (words ≡ codes "objects" ∷ path.now ∷ from ∷ to ∷ []) × SpellsRange from to range
+AskAfterName help version words (command.Paths path None) =
+    (words ≡ codes "paths" ∷ path.now ∷ []) × (path.now ≢ codes "--trees")
+AskAfterName help version words (command.Paths path (Some trees)) =
+    (words ≡ codes "paths" ∷ codes "--trees" ∷ decimal trees ∷ path.now ∷ []) × (trees < 2 ^ 32)
 AskAfterName help version words (command.Write None) = words ≡ codes "write" ∷ []
 AskAfterName help version words (command.Write (Some path)) = words ≡ codes "write" ∷ path.now ∷ []
 AskAfterName help version words (command.Merge path) = words ≡ codes "merge" ∷ path.now ∷ []
@@ -120,7 +125,7 @@ TellsOf (graph.NewerUnchecked path) form name texts input unread IsLeftAlone May
 
 -- an answer that the command may give is written, with its status: help and version leave the folder alone; each other command
 -- answers of what the opener may answer at its path, while the count of failures goes from `before` to `after`, where it has a
--- path; `ask` of what it may answer in several calls, one after another. `objects`, `ask`, `write` and
+-- path; `ask` of what it may answer in several calls, one after another. `objects`, `ask`, `paths`, `write` and
 -- questions about newer commits answer of what the input has left before and after, where that is known; none of the others
 -- asks for it
 abbrev pub HistorytoolMayWrite : Command → Option (List ℕ) → Option (List ℕ) → Type 0
@@ -154,6 +159,9 @@ HistorytoolMayWrite (command.Ids path range) input unread IsLeftAlone MayOpenAt 
 HistorytoolMayWrite (command.Objects path range) input unread IsLeftAlone MayOpenAt before after old new status =
     WritesAnswer objects_text objects_status
     (MayCompareObjects range input unread (MayOpenAt path.now before after)) old new status
+HistorytoolMayWrite (command.Paths path trees) input unread IsLeftAlone MayOpenAt before after old new status =
+    WritesAnswer paths_text paths_status
+    (MayTellPaths (most_trees trees) input unread (MayOpenAt path.now before after)) old new status
 HistorytoolMayWrite (command.Write path) input unread IsLeftAlone MayOpenAt before after old new status =
     WritesAnswer written_text written_status
     (MayWriteLayer (option_map (λ p. p.now) path) IsLeftAlone (λ at. MayOpenAt at before after) input unread) old new status

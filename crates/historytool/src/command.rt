@@ -1,7 +1,7 @@
 //! The commands of `historytool`, by the words of a command line.
 
-ghost use Rattle.std.specs.Prelude.{◌≡◌, ◌≢◌, ◌↔◌, ◌∷◌, [], ℕ, List, IfOk, IfSome, IsNone};
-ghost use Rattle.std.specs.Prelude.{IsTrue, codes, map, string_bytes};
+ghost use Rattle.std.specs.Prelude.{◌≡◌, ◌≢◌, ◌<◌, ◌^◌, ◌↔◌, ◌∷◌, [], ℕ, List, IfOk, IfSome};
+ghost use Rattle.std.specs.Prelude.{IsNone, IsTrue, codes, decimal, length, map, string_bytes};
 ghost use Rattle.historytool.specs.HistorytoolCommands.{AreQuestionWords, AskAfterName};
 ghost use Rattle.historytool.specs.HistorytoolCommands.{AskHistorytool, IsId, IsOption, TellsOf};
 ghost use Rattle.historytool.specs.HistorytoolCommands.{TellsOfItself};
@@ -24,7 +24,8 @@ use history_commands::SpelledQuestion;
 use history_commands::run::{run_check, run_spelled};
 use newer_commands::run::run_spelled_newer;
 use newer_unchecked::run::run_spelled_newer_unchecked;
-use object_commands::{PositionRange, run_ids, run_objects};
+use object_commands::{PositionRange, number_in, run_ids, run_objects};
+use path_commands::run_paths;
 use question_commands::asking::run_ask;
 use question_commands::others::Nobody;
 use show_commands::run::run_show;
@@ -100,6 +101,14 @@ pub enum Command<'a> {
         path: &'a str,
         /// The positions of the commits that are meant; all of them, where it is none.
         range: Option<PositionRange>,
+    },
+    /// The changed-path filters of the graph are to be held against the trees of its commits, which
+    /// are asked for.
+    Paths {
+        /// The path of the graph.
+        path: &'a str,
+        /// How many trees may be read for a commit; 2^22, where it is none.
+        trees: Option<u32>,
     },
     /// The commits that the input has are to be written as a layer.
     Write {
@@ -210,6 +219,7 @@ impl<'a> Command<'a> {
             "objects" => Some(Command::Objects { path, range: None }),
             "write" => Some(Command::Write { path: Some(path) }),
             "merge" => Some(Command::Merge { path }),
+            "paths" => Command::paths(path),
             _ => None,
         }
     }
@@ -251,6 +261,7 @@ impl<'a> Command<'a> {
                 let range = Some(range_of(first, others)?);
                 Some(Command::Objects { path, range })
             }
+            "paths" => Command::limited_paths(path, first, others),
             _ => None,
         }
     }
@@ -281,6 +292,38 @@ impl<'a> Command<'a> {
                     [] => Some(Command::AskUnchecked { path }),
                     _ => None,
                 },
+            },
+            _ => None,
+        }
+    }
+
+    /// `paths`, if the word after it is no option.
+    fn paths(path: &'a str) -> Option<Command<'a>>
+        ensures asked { (help version : List ℕ)
+            → IfSome result (AskAfterName help version (codes "paths" ∷ path.now ∷ [])) }
+        ensures other { IsNone result → path.now ≡ codes "--trees" }
+    {
+        match path {
+            "--trees" => None,
+            _ => Some(Command::Paths { path, trees: None }),
+        }
+    }
+
+    /// `paths --trees`, if the next word is a number, and the one after that the last.
+    fn limited_paths(option: &str, number: &str, others: &'a [String]) -> Option<Command<'a>>
+        ensures asked { (help version : List ℕ) → IfSome result (AskAfterName help version
+            (codes "paths" ∷ option.now ∷ number.now ∷ map string_bytes others.now)) }
+        ensures other { IsNone result → (trees : ℕ) → ¬ ((option.now ≡ codes "--trees")
+            × (number.now ≡ decimal trees) × (trees < 2 ^ 32) × (length others.now ≡ 1)) }
+    {
+        match option {
+            "--trees" => match others {
+                [] => None,
+                [path] => {
+                    let trees = Some(number_in(number)?);
+                    Some(Command::Paths { path, trees })
+                }
+                _ => None,
             },
             _ => None,
         }
@@ -468,6 +511,9 @@ impl Run for Command<'_> {
             Command::Ids { path, range } => run_ids(alloc, folder, path, range, output),
             Command::Objects { path, range } => {
                 run_objects(alloc, input, folder, path, range, output)
+            }
+            Command::Paths { path, trees } => {
+                run_paths(alloc, input, folder, path, trees, output)
             }
             Command::Write { path } => run_write(alloc, input, folder, path, output),
             Command::Merge { path } => run_merge(alloc, folder, path, output),

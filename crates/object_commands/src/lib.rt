@@ -12,5 +12,5 @@ mod refusal;
 
 pub use ids::run_ids;
 pub use objects::run_objects;
-pub use range::PositionRange;
+pub use range::{PositionRange, number_in};
 pub use refusal::ObjectsRefusal;

@@ -58,7 +58,7 @@ impl PositionRange {
 }
 
 /// The number below 2^32 that a text is in decimal, without a sign and leading zeros.
-fn number_in(text: &str) -> Option<u32>
+pub fn number_in(text: &str) -> Option<u32>
     ensures { MatchOption result ((n : ℕ) → n < 2 ^ 32 → text.now ≢ decimal n)
         (λ n. text.now ≡ decimal n) }
 {

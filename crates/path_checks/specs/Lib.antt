@@ -1,2 +1,3 @@
 pub mod NamedLoan
 pub mod RightByStream
+pub mod ToldFault

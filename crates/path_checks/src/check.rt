@@ -5,11 +5,13 @@ ghost use Rattle.gix_commitgraph.specs.Graph.{total};
 ghost use Rattle.gix_commitgraph.specs.Sound.{Sound};
 ghost use Rattle.object_stream.specs.declared.object_type.ObjectType.TheVariants.{Tree};
 ghost use Rattle.tree_requests.specs.TakenTree.{AreRequestLines};
-ghost use Rattle.path_checks.specs.RightByStream.{AreRightByStream, AreRightOfKind, IsToldBy};
-ghost use Rattle.path_checks.specs.RightByStream.{MayRefuseByStream, MayRefuseOfKind};
+ghost use Rattle.path_checks.specs.RightByStream.{AreRightByStream, AreRightOfKind};
+ghost use Rattle.path_checks.specs.RightByStream.{MayRefuseByStream, MayRefuseOfKind, limits_for};
+ghost use Rattle.path_checks.specs.ToldFault.{IsToldBy};
 
 use crate::error::PathsError;
 use crate::lent::{LentReader, LentWriter};
+use crate::told::error_of;
 use filter_checks::{RefusedFilter, check_filters};
 use gix_commitgraph::Graph;
 use graph_chunks::filters::GraphFilters;
@@ -23,17 +25,19 @@ use tree_requests::{Exchange, RequestError, Requests, TreeRequestError, TreeRequ
 /// Checks the filters of a right graph, as [`check_filters`] does, by trees for which it asks.
 ///
 /// It writes the id of a tree that it needs as a line, and reads the entry that answers. A tree
-/// that was read is kept, and asked for again only where there was no room to keep it.
+/// that was read is kept, and asked for again only where there was no room to keep it. For each
+/// commit, only so many trees are read.
 ///
 /// # Errors
 ///
 /// `WriteFailed` where the writer fails; else `Filter` with the first commit whose filter is
-/// refused, also where the stream ends the way; `OutOfMemory` where there was no memory to begin.
+/// refused, also where the stream ends the way; `Device` where a read fails, and `OutOfMemory`
+/// where memory runs out.
 pub fn check_by_requests<R: Read, W: Write>(
     alloc: Global,
     graph: &Graph,
     filters: &GraphFilters<'_>,
-    limits: Limits,
+    trees: usize,
     reader: &mut R,
     writer: &mut W,
 ) -> Result<(), PathsError>
@@ -44,7 +48,7 @@ pub fn check_by_requests<R: Read, W: Write>(
     ensures right { OnOk result
         (AreRightByStream (R.remaining reader.old) graph.now filters.now) }
     ensures refused { IfErr result
-        (MayRefuseByStream (R.remaining reader.old) limits graph.now filters.now) }
+        (MayRefuseByStream (R.remaining reader.old) trees graph.now filters.now) }
 {
     let kind = graph.object_hash();
     let Ok(requests) = Requests::new(alloc, kind, ObjectType::Tree) else {
@@ -54,7 +58,7 @@ pub fn check_by_requests<R: Read, W: Write>(
         alloc,
         graph,
         filters,
-        limits,
+        limits_for(trees),
         requests,
         LentReader { reader },
         LentWriter { writer },
@@ -108,6 +112,17 @@ fn told_of(
     }
     match checked {
         Ok(()) => Ok(()),
-        Err(refused) => Err(PathsError::Filter(refused)),
+        Err(RefusedFilter { pos, why }) => Err(error_of(pos, why)),
+    }
+}
+
+/// The limits of a check by which so many trees may be read for a commit.
+fn limits_for(trees: usize) -> Limits
+    ensures { result ≡ limits_for trees }
+{
+    Limits {
+        paths: usize::MAX,
+        names: 2048,
+        trees,
     }
 }

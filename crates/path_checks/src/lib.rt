@@ -9,6 +9,7 @@
 mod check;
 mod error;
 mod lent;
+mod told;
 
 pub use check::check_by_requests;
-pub use error::PathsError;
+pub use error::{PathsError, PathsFault};

@@ -4,17 +4,14 @@ ghost use Rattle.gix_commitgraph.specs.Sound.{Sound};
 
 use crate::checks::{LIMITS, file_of, graph_of};
 use crate::fixtures::small_trees;
-use filter_checks::FilterRefusal;
 use gix_commitgraph::Graph;
 use gix_hash_core::{Kind, ObjectId};
 use graph_chunks::filters::GraphFilters;
 use object_stream::EntryError;
-use path_checks::{PathsError, check_by_requests};
+use path_checks::{PathsError, PathsFault, check_by_requests};
 use std::alloc::Global;
 use std::process::Abort;
 use test_trees::known::KnownTrees;
-use tree_changes::Refusal;
-use tree_requests::{RequestError, TreeRequestError};
 
 /// Checks the filters of a graph by the entries of a stream, and adds the lines that ask to an
 /// output. The contract is long, and here it ends.
@@ -30,24 +27,13 @@ fn check(
     let Ok(filters) = GraphFilters::of_graph(alloc, graph) else {
         panic!(rt; "the filters are refused");
     };
-    check_by_requests(alloc, graph, &filters, LIMITS, &mut stream, output)
+    check_by_requests(alloc, graph, &filters, LIMITS.trees, &mut stream, output)
 }
 
 /// The id of the tree whose entry was waited for when the stream ended.
 fn waited_for(error: &PathsError) -> Option<ObjectId> {
-    let PathsError::Filter(refused) = error else {
-        return None;
-    };
-    match &refused.why {
-        FilterRefusal::Trees(Refusal::Source(error)) => ended_before(error),
-        _ => None,
-    }
-}
-
-/// The id of the tree that is not given since the stream ended, if that is the error.
-fn ended_before(error: &TreeRequestError) -> Option<ObjectId> {
     match error {
-        TreeRequestError::Request(RequestError::Entry(id, EntryError::Ends)) => Some(*id),
+        PathsError::Filter(_, PathsFault::Entry(id, EntryError::Ends)) => Some(*id),
         _ => None,
     }
 }

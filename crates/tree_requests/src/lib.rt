@@ -15,3 +15,4 @@ pub use error::TreeRequestError;
 pub use exchange::Exchange;
 pub use object_requests::{RequestError, Requests};
 pub use source::TreeRequests;
+pub use tree_objects::TreeError;

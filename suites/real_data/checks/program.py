@@ -49,8 +49,9 @@ class AnyProgram:
             self.hangs += 1
             return HUNG
         if run.returncode != 0 and run.stdout and words:
-            # With `--newer` the answer stands behind the ids that are asked for, and an empty line.
-            told = (b"\n" + run.stdout).partition(b"\n\n")[2] if "--newer" in words else b""
+            # With `--newer`, and of `paths`, the answer stands behind the ids that are asked for, and an empty line.
+            asks = "--newer" in words or words[0] == "paths"
+            told = (b"\n" + run.stdout).partition(b"\n\n")[2] if asks else b""
             # A graph that `show` refuses is shown before the refusal, and `ask` answers until a read fails.
             LINES.add((words[0], (told or run.stdout).splitlines()[-1 if words[0] in ("show", "ask") else 0].decode()))
         return Answer(run.returncode, run.stdout or b"", run.stderr)

@@ -1,0 +1,3 @@
+pub mod QuotedPath
+pub mod PathsLines
+pub mod ToldPaths
