@@ -7,20 +7,19 @@ use std::io::{BufReader, Write};
 use std::path::{Path, PathBuf};
 use std::process::{Command, Stdio};
 
-use crate::commands::{Takes, Tool};
+use crate::commands::Takes;
 use crate::diagnosis::Case;
 use crate::error::Error;
 use crate::fields::fields_of;
 use crate::graph::{Graph, Kind, Place, Places};
 use crate::json::{Object, Value};
 use crate::known::{what_to_do, Explained, Known};
-use crate::newer::{self, Answered};
-use crate::objects;
 use crate::paths::{from_root, is_there};
-use crate::program::{self, line_on, Answer, Call, Held, Plain, Silence, Sink};
+use crate::program::{self, line_on, Answer, Call, Plain, Silence, Sink};
 use crate::progress::Progress;
 use crate::question::Question;
 use crate::repository::{read_revisions, Repository};
+use crate::ring::{self, Answered, Objects};
 use crate::scratch::Scratch;
 use crate::session::{Passed, Session, UNREAD};
 use crate::text::{quoted, shown};
@@ -165,12 +164,10 @@ fn answer_question<'a>(question: &'a Question<'a>, sink: &mut dyn Sink) -> Resul
     if let Some(line) = graph.refused_by_git(question.repository.hash) {
         return Ok(Case::new(question, graph, Answer::of(1, line)));
     }
-    let options = question.options();
     match question.words.word() {
         "list" => Ok(crate::list::list(question, &program)),
         "ask" => crate::ask::ask(question, &program),
-        "verify" if options.objects => verify_objects(question, sink),
-        "verify" if options.all_checks => ask_all(question, sink),
+        "verify" => crate::verify::verify(question, sink),
         _ => ask_program(question, Asked::own(question, &program), sink),
     }
 }
@@ -199,7 +196,7 @@ impl<'a> Asked<'a> {
     }
 
     /// Another word.
-    fn other(program: &'a Path, word: &'static str) -> Self {
+    pub fn other(program: &'a Path, word: &'static str) -> Self {
         Asked { program, word, of: word, alone: false }
     }
 }
@@ -255,7 +252,8 @@ fn ask_at(
     let call = Call { program, words: &words, folder, input: None, asks };
     let (session, line) = (question.session, line_on(question, graph));
     if is_newer {
-        let Answered { answer, read } = newer::ask(session, &call, sink, line, question.progress);
+        let Answered { answer, read } =
+            ring::ask(session, &call, Objects::Commits, sink, line, question.progress);
         (answer, Some(read))
     } else {
         (program::ask(session, &call, sink, line), None)
@@ -269,52 +267,6 @@ fn is_alone(question: &Question, asked: &Asked, graph: &Graph) -> bool {
         "ask" => asked.alone,
         _ => !is_there(&graph.chain_file()),
     }
-}
-
-/// Asks both programs for all that they check: `distinct` of the one, whose lines are those of
-/// `verify`, and then `check` of the other, with the lines on dates and filters.
-fn ask_all<'a>(question: &'a Question<'a>, sink: &mut dyn Sink) -> Result<Case<'a>, Error> {
-    let historytool = question.session.program(Tool::Historytool)?;
-    let graphtool = question.session.program(Tool::Graphtool)?;
-    let case = ask_program(question, Asked::other(&graphtool, "distinct"), &mut Silence)?;
-    if case.answer.status != 0 || case.answer.passed != Passed::Whole {
-        return Ok(case);
-    }
-    ask_program(question, Asked::other(&historytool, "check"), sink)
-}
-
-/// Asks for the check of the commit-graph and then for that of its commits, and once more where it
-/// is another one meanwhile. The lines of the first check are held back until then.
-fn verify_objects<'a>(question: &'a Question<'a>, sink: &mut dyn Sink) -> Result<Case<'a>, Error> {
-    const TRIES: usize = 2;
-    let historytool = question.session.program(Tool::Historytool)?;
-    let graphtool = question.session.program(Tool::Graphtool)?;
-    for _ in 0..TRIES {
-        let stamp = question.places.graph().stamp();
-        let mut held = Held::default();
-        let mut case = match question.options().all_checks {
-            true => ask_all(question, &mut held)?,
-            false => ask_program(question, Asked::other(&graphtool, "verify"), &mut held)?,
-        };
-        if case.answer.status != 0 || case.answer.passed != Passed::Whole {
-            return Ok(case);
-        }
-        let count = case.answer.line.split(' ').nth(2).and_then(|count| count.parse().ok());
-        let compared = objects::compare(&case, &historytool, count.unwrap_or(0));
-        let now = question.places.graph().stamp();
-        if !compared.is_other && stamp.is_below(&now) {
-            case.answer =
-                Answer { said: compared.said, ..Answer::of(compared.status, compared.line) };
-            if case.answer.status == 0 {
-                let last = format!("objects commits {}\n", compared.count);
-                held.take(last.as_bytes());
-                case.write(&held.0, sink);
-            }
-            return Ok(case);
-        }
-    }
-    let answer = Answer::failed(NO_ANSWER, &Error::WrittenAnew);
-    Ok(Case::new(question, question.places.graph(), answer))
 }
 
 /// Says all that is said beside the answer, and gives the status to end with.
@@ -396,7 +348,7 @@ fn look_for_other_parents(case: &mut Case) {
 /// Says that a commit-graph makes answers fast, where many commits were read that it lacks.
 fn look_for_many(case: &mut Case) {
     let read = case.newer.unwrap_or(0);
-    if read < newer::MANY || case.question.options().quiet {
+    if read < ring::MANY || case.question.options().quiet {
         return;
     }
     let lacks = match case.graph.kind {

@@ -103,6 +103,7 @@ impl<'a> Case<'a> {
             line if line.starts_with("refused read ") => self.known.is_absent = true,
             line if line.starts_with("refused objects ") => self.diagnose_object(),
             line if line.starts_with("refused newer ") => self.diagnose_newer(),
+            line if line.starts_with("refused paths ") => self.diagnose_paths(),
             line if line.starts_with("refused ") => {
                 self.name_file();
                 self.advise_anew();

@@ -163,7 +163,8 @@ mod tests {
     #[test]
     fn the_usage_of_a_command() {
         let wanted = "usage: git cgraph [<options>] verify | check | distinct | show | list [--if-exists]\n   \
-                      or: git cgraph [<options>] verify [--all-checks] [--objects] [-j <n>]\n";
+                      or: git cgraph [<options>] verify [--all-checks] [--objects] [-j <n>] \
+                      [--paths]\n";
         assert_eq!(usage(Some("verify")), wanted);
         assert!(usage(None).ends_with("   or: git cgraph -h | --help | --version\n"));
     }

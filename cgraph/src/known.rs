@@ -26,6 +26,8 @@ pub struct Known {
     pub note: String,
     /// The id of the commit of which the line speaks.
     pub commit: String,
+    /// The id of the tree of which it speaks, where it does.
+    pub tree: String,
     /// Whether nothing is wrong with what the repository has, as far as one knows.
     pub is_absent: bool,
     /// Whether there is no commit-graph.

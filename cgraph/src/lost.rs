@@ -1,5 +1,5 @@
-//! What is wrong where commits are missing or damaged, or cannot be listed; and what kept `write`
-//! from writing.
+//! What is wrong where commits or trees are missing or damaged, or cannot be listed; and what kept
+//! `write` from writing.
 
 use std::fs;
 use std::path::{Path, PathBuf};
@@ -18,10 +18,7 @@ impl Case<'_> {
     /// Finds out what is known of a commit that is not as the commit-graph has it.
     pub fn diagnose_object(&mut self) {
         let line = self.answer.line.clone();
-        self.known.commit = number_after(&line, " position ")
-            .and_then(|position| position.parse().ok())
-            .and_then(|position| self.id_at(position))
-            .unwrap_or_default();
+        self.name_commit_by_ids(&line);
         match line.strip_prefix("refused objects ").and_then(|rest| rest.split(' ').next()) {
             Some("1" | "4") => self.diagnose_missing(),
             Some("2") => self.known.is_absent = true,
@@ -44,6 +41,39 @@ impl Case<'_> {
             Some("6") => self.diagnose_damaged(),
             _ => {}
         }
+    }
+
+    /// Finds out what is known of a changed-path filter that was refused, or of a tree that it needs.
+    pub fn diagnose_paths(&mut self) {
+        let line = self.answer.line.clone();
+        self.name_commit_by_ids(&line);
+        self.known.tree = number_after(&line, " id ").unwrap_or_default().to_owned();
+        match line.strip_prefix("refused paths ").and_then(|rest| rest.split(' ').next()) {
+            Some("1" | "4") => self.diagnose_lost(),
+            Some("2" | "3" | "9" | "10") => self.known.is_absent = true,
+            Some("5" | "7" | "8") => {}
+            Some("6") => self.diagnose_damaged(),
+            _ => {
+                self.name_file();
+                self.advise_anew();
+            }
+        }
+    }
+
+    /// The id of the object that is missing or damaged, and what it is.
+    fn object(&self) -> (&str, &'static str) {
+        match self.known.tree.as_str() {
+            "" => (&self.known.commit, "commit"),
+            tree => (tree, "tree"),
+        }
+    }
+
+    /// Names the commit at the position of which a line speaks, as `historytool` lists the ids.
+    fn name_commit_by_ids(&mut self, line: &str) {
+        self.known.commit = number_after(line, " position ")
+            .and_then(|position| position.parse().ok())
+            .and_then(|position| self.id_at(position))
+            .unwrap_or_default();
     }
 
     /// The id at a position of the commit-graph.
@@ -75,11 +105,12 @@ impl Case<'_> {
             self.diagnose_damaged();
         } else if self.is_past_the_end() {
             self.known.is_absent = true;
-        } else if self.newer.is_some() {
-            self.known.advice =
-                "the commit is missing, and has to come back: take it from another copy of the \
-                 repository, and ask again"
-                    .to_owned();
+        } else if self.newer.is_some() || !self.known.tree.is_empty() {
+            self.known.advice = format!(
+                "the {} is missing, and has to come back: take it from another copy of the \
+                 repository, and ask again",
+                self.object().1
+            );
             self.known.cure = vec![format!("{} fsck", question.git_here())];
         } else if matches!(question.words.word(), "write" | "show") || self.is_lost() {
             self.known.advice =
@@ -93,32 +124,37 @@ impl Case<'_> {
         }
     }
 
-    /// Says where the commit can be fetched: in a shallow repository, past whose end it lies, and
+    /// Says where the object can be fetched: in a shallow repository, past whose end it lies, and
     /// in a partial clone.
     fn is_past_the_end(&mut self) -> bool {
         let git = self.question.git_here();
+        let (id, object) = self.object();
         if self.question.repository.is_shallow {
-            self.known.advice = "this repository is shallow, and the commit lies past its end: \
-                                 fetch the whole history, and ask again"
-                .to_owned();
+            self.known.advice = format!(
+                "this repository is shallow, and the {object} lies past its end: fetch the whole \
+                 history, and ask again"
+            );
             self.known.cure = vec![format!("{git} fetch --unshallow")];
         } else if self.is_partial() {
-            self.known.advice = "this is a partial clone, in which the commit is not here, and \
-                                 nothing was fetched: let Git fetch it, and ask again"
-                .to_owned();
-            self.known.cure = vec![format!("{git} cat-file -e {}", self.known.commit)];
+            let cure = format!("{git} cat-file -e {id}");
+            self.known.advice = format!(
+                "this is a partial clone, in which the {object} is not here, and nothing was \
+                 fetched: let Git fetch it, and ask again"
+            );
+            self.known.cure = vec![cure];
         } else {
             return false;
         }
         true
     }
 
-    /// Whether Git can read the commit after all, or fails for want of something, which tells
-    /// nothing of the object.
+    /// Whether Git can read the object after all, or fails for want of something, which tells
+    /// nothing of it.
     fn git_has_means(&self) -> bool {
         let session = self.question.session;
+        let (id, object) = self.object();
         let mut git = session.git_alone();
-        git.env("LC_ALL", "C").args(["cat-file", "commit", &self.known.commit]);
+        git.env("LC_ALL", "C").args(["cat-file", object, id]);
         let child = session.spawn(git.stdout(Stdio::null()).stderr(Stdio::piped()));
         let ended = child.and_then(std::process::Child::wait_with_output);
         ended.is_ok_and(|ended| ended.status.success() || lacks_means(&text_of(&ended.stderr)))
@@ -127,7 +163,7 @@ impl Case<'_> {
     /// Whether Git says that the object is there.
     fn is_stored(&self) -> bool {
         let session = self.question.session;
-        session.succeeds(session.git_alone().args(["cat-file", "-e", &self.known.commit]))
+        session.succeeds(session.git_alone().args(["cat-file", "-e", self.object().0]))
     }
 
     /// Whether Git may fetch objects that are not here.
@@ -183,7 +219,8 @@ impl Case<'_> {
 
     /// The file of the object by itself, if it stands in one.
     fn loose_file(&self) -> Option<PathBuf> {
-        let (start, rest) = (self.known.commit.get(..2)?, self.known.commit.get(2..)?);
+        let id = self.object().0;
+        let (start, rest) = (id.get(..2)?, id.get(2..)?);
         let files = self.object_folders().into_iter().map(|folder| folder.join(start).join(rest));
         files.into_iter().find(|file| file.is_file())
     }

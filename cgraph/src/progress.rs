@@ -10,6 +10,7 @@ use std::thread::{self, JoinHandle};
 use std::time::{Duration, Instant};
 
 use crate::guard::Guard;
+use crate::ring::Objects;
 use crate::session::Session;
 use crate::words::Options;
 
@@ -63,9 +64,9 @@ impl Progress {
         self.begin(guard, what, |delay| (delay as i64 - 1, Duration::from_secs(delay)))
     }
 
-    /// Says how many commits were read that the commit-graph lacks.
-    pub fn gathering(self, guard: &Arc<Guard>) -> Line {
-        let what = What::Gathering { read: 0 };
+    /// Says how many objects were read for which a program asked.
+    pub fn gathering(self, guard: &Arc<Guard>, objects: Objects) -> Line {
+        let what = What::Gathering { objects, read: 0 };
         self.begin(guard, what, |delay| (delay as i64 - 1, Duration::from_secs(delay)))
     }
 
@@ -137,7 +138,7 @@ enum Event {
 enum What {
     Reading { size: u64, process: Option<u32> },
     Counting { commits: u64, counted: u64 },
-    Gathering { read: u64 },
+    Gathering { objects: Objects, read: u64 },
     Waiting(&'static str),
 }
 
@@ -180,7 +181,7 @@ impl State {
         match (event, &mut self.what) {
             (Event::Process(number), What::Reading { process, .. }) => *process = Some(number),
             (Event::Counted(count), What::Counting { counted, .. }) => *counted += count,
-            (Event::Counted(count), What::Gathering { read }) => *read += count,
+            (Event::Counted(count), What::Gathering { read, .. }) => *read += count,
             _ => {}
         }
     }
@@ -199,7 +200,10 @@ impl State {
             What::Counting { commits, counted } => {
                 format!("Checking commits: {} ({counted}/{commits})", percent(*counted, *commits))
             }
-            What::Gathering { read } => format!("Reading newer commits: {read}"),
+            What::Gathering { objects: Objects::Commits, read } => {
+                format!("Reading newer commits: {read}")
+            }
+            What::Gathering { objects: Objects::Trees, read } => format!("Reading trees: {read}"),
             What::Waiting(text) => format!("{text}: {} s", self.seconds),
             What::Reading { size, process } => match process.map(bytes_read) {
                 None => format!("Reading commit-graph: {}", percent(0, 1)),

@@ -53,6 +53,7 @@ pub struct Options {
     pub progress: Option<bool>,
     pub all_checks: bool,
     pub objects: bool,
+    pub paths: bool,
     pub if_exists: bool,
     pub jobs: Option<u32>,
     pub split: bool,
@@ -151,6 +152,7 @@ impl Reader<'_> {
         match (word, word_of(option).as_str()) {
             ("verify", "--all-checks") => options.all_checks = true,
             ("verify", "--objects") => options.objects = true,
+            ("verify", "--paths") => options.paths = true,
             ("verify" | "check" | "distinct" | "show" | "list", "--if-exists") => {
                 options.if_exists = true;
             }

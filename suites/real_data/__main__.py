@@ -29,7 +29,8 @@ is still being built: its path comes as a line of standard input, and the checks
 - the filters of these graphs, asked by the program of `test_calls`: each path that a commit changes is possible, and
   all other answers are those of a plain reading; also of version 2, and where bytes were read as unsigned numbers.
 - `paths`: filters that Git writes, with bits cleared or exchanged, by a plain walk through the trees, which Git hands over; trees
-  that are missing, damaged, deep or many, and streams that are not what Git writes.
+  that are missing, damaged, deep or many, and streams that are not what Git writes. Over filters that were damaged at random, beside
+  the commits that `git log -- PATH` lists, with the commit-graph and without.
 - `ids` and `objects`: right graphs and damaged ones beside the commits as Git writes them, by a plain reading, and beside
   Git's verdict; streams that are cut or changed at each byte; and commits that Git's own commands do not make. Also commits of all
   shapes and times, one at a time, each beside graphs that say what Git reads of it, and others.

@@ -13,13 +13,13 @@ sys.path[:0] = [SUITES, *(os.path.join(os.path.dirname(SUITES), room) for room i
 
 from results import Results
 from wrappers import commits, completions, coverage, hostile, installs, json_answers, newer, packages, pasted, questions
-from wrappers import releases, repositories, sentences, tools, writes
+from wrappers import releases, repositories, sentences, tools, trees, writes
 
 
 def main():
     """Runs the checks, and answers the exit status."""
     results = Results()
-    parts = (tools, sentences, questions, repositories, commits, coverage, writes, hostile, pasted, json_answers, installs, completions, newer)
+    parts = (tools, sentences, questions, repositories, commits, coverage, writes, hostile, pasted, json_answers, installs, completions, newer, trees)
     for part in (*parts, packages, releases):
         part.check_all(results)
     return results.finish()

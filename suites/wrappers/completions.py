@@ -24,6 +24,7 @@ ASKED = {
     "git cgraph verify --all": {"--all-checks"},
     "git cgraph verify --ob": {"--objects", "--object-dir"},
     "git cgraph verify -q --jo": {"--jobs"},
+    "git cgraph verify --pa": {"--paths"},
     "git cgraph find --objects": set(),
     "git cgraph merge-base --verb": {"--verbose"},
     "git cgraph is-ancestor --unch": {"--unchecked"},

@@ -16,7 +16,7 @@ from wrappers.writes import Written
 
 WORDS = (
     *(b"verify", b"check", b"distinct", b"show", b"list", b"find", b"is-ancestor", b"walk", b"merge-base", b"-q", b"--json", b"-C", b"."),
-    *(b"--object-dir", b"--", b"-j", b"3", b"HEAD", b"HEAD~1", b"\xff\xfe", b"", b"-v", b"--unchecked", b"--graph-only", b"--objects", b"--all-checks"),
+    *(b"--object-dir", b"--", b"-j", b"3", b"HEAD", b"HEAD~1", b"\xff\xfe", b"", b"-v", b"--unchecked", b"--graph-only", b"--objects", b"--paths", b"--all-checks"),
     *(b"--if-exists", b"\x01\n", b"nothing", b"-\xff", b"--jobs=\xff", b"-h", b"--version", b":/first", b"'", b'"$(id)"'),
 )
 LINES = 600

@@ -2,6 +2,7 @@
 its sentence says. Nothing outside of the repository changes, and no file and no filter is lost that is not named. Git is the real one.
 """
 
+import hashlib
 import os
 import re
 import resource
@@ -18,6 +19,7 @@ NOBODY = 65534
 UNKNOWN = "if it had, put --changed-paths behind the last command"
 NOT_OWN = "is not this repository's own: ask whoever keeps it to "
 ANEW = ("rm -f {file}", "{git} commit-graph write --reachable")
+FILTERED = ("rm -f {file}", "{git} commit-graph write --reachable --changed-paths")
 OWN = ("{git} cgraph write",)
 OWN_LAYER = ("{git} cgraph write --split",)
 FORK = ("fork",)
@@ -292,10 +294,10 @@ def lost(spot):
     os.remove(spot.loose(spot.git("rev-parse", "main~2")))
 
 
-def partial_clone(spot):
-    """A partial clone without one commit, of another repository that has it."""
-    spot.write()
-    commit = spot.git("rev-parse", "main~2")
+def partial_clone(spot, name="main~2", *options):
+    """A partial clone without one object, of another repository that has it."""
+    spot.write(*options)
+    commit = spot.git("rev-parse", name)
     whole = os.path.join(spot.root, "whole.git")
     spot.git("clone", "-q", "--bare", "--no-hardlinks", spot.folder, whole)
     spot.git("config", "uploadpack.allowAnySHA1InWant", "true", folder=whole)
@@ -303,6 +305,54 @@ def partial_clone(spot):
         spot.git("config", "remote.origin." + name, value)
     os.remove(spot.loose(commit))
     spot.more["commit"] = commit
+
+
+def cleared(*options):
+    """A commit-graph of which a filter has no bit, and is right but for that."""
+    def make(spot):
+        spot.write("--changed-paths", *options)
+        clear_filter(spot.layers()[0] if options else spot.path(GRAPH))
+    return make
+
+
+def clear_filter(path):
+    """Takes all bits out of the last filter of a layer, which then has the checksum of its bytes; a layer is named by that."""
+    content = bytearray(read(path)[:-20])
+    end = max(int.from_bytes(content[8 + 12 * at + 4 : 20 + 12 * at], "big") for at in range(content[6] + 1))
+    rows = {bytes(content[8 + 12 * at :][:4]): int.from_bytes(content[12 + 12 * at : 20 + 12 * at], "big") for at in range(content[6])}
+    first = rows[b"BDAT"] + 12 + int.from_bytes(content[rows[b"BDAT"] - 8 : rows[b"BDAT"] - 4], "big")
+    content[first:end] = bytes(end - first)
+    os.chmod(path, 0o644)
+    put(path, bytes(content) + hashlib.sha1(content).digest())
+    if os.path.basename(path) != GRAPH:
+        name = hashlib.sha1(content).hexdigest()
+        os.rename(path, os.path.join(os.path.dirname(path), "graph-%s.graph" % name))
+        put(os.path.join(os.path.dirname(path), "commit-graph-chain"), (name + "\n").encode())
+
+
+def has_all_bits(spot):
+    """A complaint where some filter still has no bit."""
+    answer = spot.ask("verify", "--paths")
+    return spot.verdict() or (None if answer.status == 0 else "it is %r" % (answer,))
+
+
+def without_tree(content):
+    """A commit whose root tree is missing, or has another content."""
+    def make(spot):
+        spot.write("--changed-paths")
+        tree = spot.loose(spot.git("log", "-1", "--format=%T", "main~2"))
+        if os.path.exists(tree):
+            os.remove(tree)
+        if content:
+            put(tree, content)
+        spot.more["graph"] = read(spot.path(GRAPH))
+    return make
+
+
+def partial_trees(spot):
+    """A partial clone without one tree, of another repository that has it."""
+    spot.filters = True
+    partial_clone(spot, "main~2^{tree}", "--changed-paths")
 
 
 def locked(spot):
@@ -495,6 +545,15 @@ LACKING = (
         ("{here} cat-file -e {commit}",), "let Git fetch it", nothing),
     Row("commits past the end of a shallow clone", "diagnose_newer is_past_the_end", shallow(), TOP_TWO,
         ("{here} fetch --unshallow",), "the commit lies past its end", nothing),
+    *(Row("a filter that lacks a path, %s" % name, "advise_anew", cleared(*options), ["verify", "--paths"], commands,
+          "leaves the commit out", has_all_bits, ALL) for name, options, commands in
+      (("in a file", (), FILTERED), ("in a layer", ("--split",), ("rm -rf {chains}", "{git} commit-graph write --reachable --split --changed-paths")))),
+    Row("a tree that is lost", "diagnose_missing", without_tree(None), ["verify", "--paths"], ("{here} fsck",),
+        "the tree is missing, and has to come back", graph_stays, ("plain", "odd", "worktree", "bare")),
+    Row("a damaged tree", "diagnose_damaged", without_tree(b"no object"), ["verify", "--paths"], ("{here} fsck",),
+        "which objects are damaged", graph_stays),
+    Row("a tree of a partial clone", "is_past_the_end", partial_trees, ["verify", "--paths"], ("{here} cat-file -e {commit}",),
+        "in which the tree is not here", has_all_bits),
     Row("a name of a lost commit", "of_revisions", missing("refs/heads/later"), ["find", "later"], ("{here} fsck",),
         "which objects are missing", graph_stays, ("plain", "odd", "bare")),
 )

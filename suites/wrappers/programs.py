@@ -34,6 +34,13 @@ def ids_in(content):
     return [content[start[b"OIDL"] + 20 * at :][:20].hex() for at in range(count)]
 
 
+def chunks_of(content):
+    """The bytes of each chunk of a layer, by its name."""
+    rows = [content[8 + 12 * at : 20 + 12 * at] for at in range(content[6] + 1)]
+    starts = [int.from_bytes(row[4:], "big") for row in rows]
+    return {row[:4]: content[start:end] for row, start, end in zip(rows, starts, starts[1:])}
+
+
 def refusal(path):
     """The line of the first fault of the files at a path, or None, and the ids of all layers."""
     ids = []
@@ -110,6 +117,43 @@ def compare(path, first, last):
     return 1
 
 
+def hold(path):
+    """Holds the filters of the layers at a path against the root trees alone, for which it asks: one without a bit lacks `file0`."""
+    line, count, position = None, None, 0
+    for content in map(bytes_of, files_at(path)):
+        chunks = chunks_of(content)
+        ends = [int.from_bytes(chunks.get(b"BIDX", b"")[at : at + 4], "big") for at in range(0, len(chunks.get(b"BIDX", b"")), 4)]
+        count = (count or 0) + len(ends) if b"BIDX" in chunks else count
+        for number, end in enumerate(ends):
+            own = chunks[b"BDAT"][12 + (ends[number - 1] if number else 0) : 12 + end]
+            line = line or refused_tree(position + number, chunks[b"CDAT"][36 * number :][:20].hex(), any(own))
+        position += len(chunks[b"CDAT"]) // 36
+    print("\n" + (line or "filters " + ("none" if count is None else "commits %d" % count)))
+    return 1 if line else 0
+
+
+def bytes_of(path):
+    """The bytes of a file."""
+    with open(path, "rb") as file:
+        return file.read()
+
+
+def refused_tree(position, tree, has_bits):
+    """The line of what is wrong with the root tree of a commit, for which it asks, or with its filter; or None."""
+    print(tree, flush=True)
+    stream = sys.stdin.buffer
+    header = stream.readline().split()
+    at = "position %d id %s" % (position, tree)
+    if header[1:] == [b"missing"] or not header:
+        return "refused paths %d %s" % (4 if header else 1, at)
+    content = stream.read(int(header[2]) + 1)[:-1]
+    if header[1] != b"tree":
+        return "refused paths 5 " + at
+    if hashlib.sha1(b"tree %d\0" % len(content) + content).hexdigest() != tree:
+        return "refused paths 6 " + at
+    return None if has_bits else 'refused paths 11 position %d path "file0"' % position
+
+
 def gather(ids, known):
     """Asks for the commits that are not known, and all that they lead to. The line of what is wrong with one, or None."""
     wanted, asked = list(ids), set(known)
@@ -150,6 +194,8 @@ def answer(word, *rest):
     if line:
         print(line)
         return 1
+    if word == "paths":
+        return hold(path)
     if word == "ids":
         print("".join(commit + "\n" for commit in (ids[int(rest[0]) : int(rest[1])] if rest else ids)), end="")
         return 0

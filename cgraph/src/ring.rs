@@ -1,6 +1,6 @@
-//! Questions about commits of which the commit-graph may lack some.
+//! Questions for which `historytool` needs objects: commits that the commit-graph lacks, or trees.
 //!
-//! Two processes run in a ring: `historytool` asks for the commits that it lacks, an id a line, and
+//! Two processes run in a ring: `historytool` asks for the objects that it lacks, an id a line, and
 //! `git cat-file` writes them. An empty line ends what is asked for, and the answer follows.
 
 use std::io::{self, BufRead, BufReader, Read, Write};
@@ -17,17 +17,36 @@ use crate::text::text_of;
 /// From so many commits on it is said that a commit-graph that has them makes answers fast.
 pub const MANY: u64 = 10_000;
 
-/// What is answered, and how many commits were read for it.
+/// What a program asks for.
+#[derive(Clone, Copy, Debug, PartialEq, Eq)]
+pub enum Objects {
+    /// Commits that are newer than the commit-graph.
+    Commits,
+    Trees,
+}
+
+impl Objects {
+    /// What the line of a refusal of one of them begins with.
+    fn refused(self) -> &'static str {
+        match self {
+            Objects::Commits => "refused newer ",
+            Objects::Trees => "refused paths ",
+        }
+    }
+}
+
+/// What is answered, and how many objects were read for it.
 pub struct Answered {
     pub answer: Answer,
     pub read: u64,
 }
 
-/// Runs a program that asks for commits, and passes on what it answers. The line that says how far
+/// Runs a program that asks for objects, and passes on what it answers. The line that says how far
 /// it is ends where it asks for the first one, and another says how many were asked for.
 pub fn ask(
     session: &Session,
     call: &Call,
+    objects: Objects,
     sink: &mut dyn Sink,
     line: Line,
     progress: Progress,
@@ -39,7 +58,7 @@ pub fn ask(
         return Answered { answer, read: 0 };
     }
     match Ring::start(session, call) {
-        Ok(ring) => ring.run(session, sink, line, progress),
+        Ok(ring) => ring.run(session, objects, sink, line, progress),
         Err(answer) => {
             line.end();
             Answered { answer, read: 0 }
@@ -76,6 +95,7 @@ impl Ring {
     fn run(
         mut self,
         session: &Session,
+        objects: Objects,
         sink: &mut dyn Sink,
         line: Line,
         progress: Progress,
@@ -83,7 +103,7 @@ impl Ring {
         line.of_process(self.tool.id());
         let said = self.git.stderr.take().map(read_aside);
         let asked = self.git.stdin.take().zip(self.tool.stdout.take());
-        let mut passing = Passing { read: 0, line: Some(line), session, progress };
+        let mut passing = Passing { read: 0, line: Some(line), session, objects, progress };
         let mut answer = match asked {
             Some((to, from)) => {
                 let mut from = BufReader::with_capacity(1 << 16, from);
@@ -101,7 +121,7 @@ impl Ring {
             None => Answer::of(session.wait(&mut self.tool), ""),
         };
         session.wait(&mut self.git);
-        if answer.line.starts_with("refused newer ") {
+        if answer.line.starts_with(objects.refused()) {
             let said = said.and_then(|thread| thread.join().ok()).unwrap_or_default();
             answer.said = text_of(&said) + &answer.said;
         }
@@ -114,6 +134,7 @@ struct Passing<'a> {
     read: u64,
     line: Option<Line>,
     session: &'a Session,
+    objects: Objects,
     progress: Progress,
 }
 
@@ -138,10 +159,10 @@ impl Passing<'_> {
         }
     }
 
-    /// Begins the line on how many commits were asked for.
+    /// Begins the line on how many objects were asked for.
     fn begin_counting(&mut self) -> Option<Counter> {
         self.end();
-        let line = self.progress.gathering(&Arc::clone(&self.session.guard));
+        let line = self.progress.gathering(&Arc::clone(&self.session.guard), self.objects);
         let counter = line.counter();
         self.line = Some(line);
         counter
