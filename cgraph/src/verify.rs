@@ -1,12 +1,11 @@
 //! `git cgraph verify`: the check of the commit-graph, and what options ask for besides. What it says
 //! of the commits, and what its changed-path filters say of the trees, Git hands over.
 
-use std::sync::Arc;
-
 use crate::answers::{ask_program, Asked, NO_ANSWER};
 use crate::commands::Tool;
 use crate::diagnosis::Case;
 use crate::error::Error;
+use crate::graph::Place;
 use crate::objects;
 use crate::program::{Answer, Call, Held, Silence, Sink};
 use crate::question::Question;
@@ -91,20 +90,27 @@ fn look_further(case: &mut Case, held: &mut Held) -> Result<bool, Error> {
     Ok(false)
 }
 
-/// Holds the changed-path filters against the trees.
+/// Holds the changed-path filters against the trees. Nothing but a line on them says that they are
+/// right.
 fn look_at_paths(case: &mut Case, asked: Asked, held: &mut Held) {
-    let Some(place) = &case.place else { return };
-    let question = case.question;
-    let words = [asked.word, place.graph];
+    let ring = case.place.as_ref().map(|place| ask_about_trees(case.question, asked, place));
+    let (answer, lines) = ring.unwrap_or_else(|| (Answer::of(0, ""), Held::default()));
+    case.answer = answer;
+    case.asked = asked.of;
+    match lines.0.strip_prefix(b"filters ") {
+        Some(found) => held.0.extend([b"paths ", found].concat()),
+        None if is_right(case) => case.answer = Answer::failed(NO_ANSWER, &Error::Unwritten),
+        None => {}
+    }
+}
+
+/// Asks a program that asks for trees, which Git hands over.
+fn ask_about_trees(question: &Question, asked: Asked, place: &Place) -> (Answer, Held) {
+    let (session, words) = (question.session, [asked.word, place.graph]);
     let (program, folder) = (asked.program, place.folder.as_path());
     let call = Call { program, words: &words, folder, input: None, asks: false };
-    let line = question.progress.waiting(&Arc::clone(&question.session.guard), "Checking filters");
-    let (session, mut lines) = (question.session, Held::default());
+    let line = question.progress.waiting(&session.guard, "Checking filters");
+    let mut lines = Held::default();
     let ring = ring::ask(session, &call, Objects::Trees, &mut lines, line, question.progress);
-    case.answer = ring.answer;
-    case.asked = asked.of;
-    if let Some(found) = lines.0.strip_prefix(b"filters ") {
-        held.0.extend(b"paths ");
-        held.0.extend(found);
-    }
+    (ring.answer, lines)
 }

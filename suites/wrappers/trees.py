@@ -84,6 +84,7 @@ def check_failures(results, spot):
     for title, program, status, said in (
         ("the program is killed while it asks", DIES, 137, "git cgraph: ended by signal 9\n"),
         ("of a program without it", "exit 2\n", 128, ""),
+        ("of a program that says nothing", "echo\n", 128, "git cgraph: the answer could not be written\n"),
     ):
         spot.clone.put_program("historytool", program, asks=True)
         answer = spot.ask("verify", "--paths")
