@@ -71,6 +71,8 @@ impl TreeSource for KnownTrees {
         contents.extend_from_slice(&tree.contents)?;
         Ok(())
     }
+
+    fn hint(&mut self, _id: &[u8]) {}
 }
 
 /// The first of these trees with an id.

@@ -40,4 +40,10 @@ pub trait TreeSource {
             × IsTree (kind_is self.old) contents.new.items entries
             × ((world : World) → says self.new world → world id.now ≡ Some entries)) }
         ensures refused { IfErr result (λ error. has_refused self.new id.now error) };
+
+    /// Says that the tree with an id will be wanted soon: a source may ask for it ahead, or do
+    /// nothing. What goes wrong is told where a tree is read.
+    fn hint(&mut self, id: &[u8])
+        ensures kind { kind_is self.new ≡ kind_is self.old }
+        ensures kept { (world : World) → says self.new world → says self.old world };
 }

@@ -19,6 +19,10 @@ use gix_hash_core::oid;
 use std::alloc::{AllocError, Global};
 use tree_objects::Entry;
 
+/// Among how many names that differ in two trees directories are looked for, whose trees will be
+/// wanted.
+const MOST_HINTED: usize = 8;
+
 /// Two trees that are gone through, and how far.
 #[derive(Drop)]
 pub(crate) struct Walk {
@@ -174,8 +178,10 @@ fn read_level<S: TreeSource>(
     ensures refused { IfErr result (IsReadRefusal (S.has_refused source.new)
         (option_map (λ id. id.now) old.entry) (option_map (λ id. id.now) new.entry) trees.old) }
 {
+    hint_pair(source, old, new);
     let old_tree = read_tree(alloc, source, old, trees)?;
     let new_tree = read_tree(alloc, source, new, trees)?;
+    hint_below(source, &old_tree, &new_tree);
     Ok(Level {
         old: old_tree,
         new: new_tree,
@@ -183,6 +189,39 @@ fn read_level<S: TreeSource>(
         new_at: 0,
         prefix,
     })
+}
+
+/// Says that the trees of a pair will be wanted, the old one first, of which one may be missing.
+fn hint_pair<S: TreeSource>(source: &mut S, old: Option<&[u8]>, new: Option<&[u8]>)
+    ensures kind { S.kind_is source.new ≡ S.kind_is source.old }
+    ensures kept { (world : World) → S.says source.new world → S.says source.old world }
+{
+    if let Some(old) = old {
+        source.hint(old);
+    }
+    if let Some(new) = new {
+        source.hint(new);
+    }
+}
+
+/// Says that the trees below two trees will be wanted, as far as the first names go at which these
+/// differ.
+fn hint_below<S: TreeSource>(source: &mut S, old: &[u8], new: &[u8])
+    ensures kind { S.kind_is source.new ≡ S.kind_is source.old }
+    ensures kept { (world : World) → S.says source.new world → S.says source.old world }
+{
+    let kind = source.kind();
+    let (mut old, mut new) = (old, new);
+    for _ in 0..MOST_HINTED {
+        let Some(pair) = next_difference(kind, old, new) else {
+            return;
+        };
+        if pair.directory {
+            hint_pair(source, id_in(pair.old), id_in(pair.new));
+        }
+        old = pair.old_rest;
+        new = pair.new_rest;
+    }
 }
 
 /// Reads a tree, where there is one. Takes it from the number of trees that may be read.
