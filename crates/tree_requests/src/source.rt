@@ -147,6 +147,12 @@ impl<E: Exchange, R: Read, W: Write> TreeSource for TreeRequests<E, R, W> {
         };
         self.read_tree(id.to_owned(), contents)
     }
+
+    fn hint(&mut self, id: &[u8]) {
+        if let Some(id) = oid::try_from_bytes(id) {
+            self.ahead(id);
+        }
+    }
 }
 
 /// Puts bytes in the place of all that a buffer holds.
