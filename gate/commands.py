@@ -15,7 +15,7 @@ PROGRAMS = {"graphtool": "", "historytool": " | --help | --version"}
 ROW = re.compile(r"^\| `(\w+) ([a-z-]+)((?: [^`]+)?)` \| (.*) \| (yes|no) \|$", re.MULTILINE)
 READS = {
     **{"": "input", " PATH": "path", " [PATH]": "optional", " [--unchecked] PATH": "trusted"},
-    **{" [--unchecked] [--newer] PATH": "newer", " [--trees N] PATH": "limited"},
+    **{" [--unchecked] [--newer] PATH": "newer", " [--exact] [--trees N] PATH": "limited"},
 }
 """What a command reads, by the words before its ids."""
 

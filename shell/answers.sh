@@ -160,7 +160,7 @@ look_at_graph() {
         [ -z "$file" ] || where="the chain file is '$file'"
         ;;
     'refused file '*) [ ! -f "$asked_path" ] || where="the file is '$asked_path'" ;;
-    'refused open 5 layer '* | 'refused verify '* | 'refused dates '* | 'refused filters '* | 'refused paths 11 '*) name_layer_at "$asked_path" ;;
+    'refused open 5 layer '* | 'refused verify '* | 'refused dates '* | 'refused filters '* | 'refused paths 1'[12]' '*) name_layer_at "$asked_path" ;;
     esac
 }
 

@@ -60,6 +60,9 @@ is_command() {
         [ "${1-}" != --newer ] || return 1
         ;;
     newer,--unchecked) shift ;;
+    limited,--exact) shift ;;
+    esac
+    case $reads,${1-} in
     limited,--trees)
         is_number "${2-}" && [ $# -gt 2 ] || return 1
         shift 2
@@ -103,7 +106,7 @@ usage() {
             if ($3 == "path") printf " PATH"
             if ($3 == "trusted") printf " [--unchecked] PATH"
             if ($3 == "newer") printf " [--unchecked] [--newer] PATH"
-            if ($3 == "limited") printf " [--trees N] PATH"
+            if ($3 == "limited") printf " [--exact] [--trees N] PATH"
             if ($3 == "optional") printf " [PATH]"
             for (id = 1; id <= $4 + 0; id++) printf " HEX"
             if ($4 ~ /\+/) printf ".."
@@ -126,7 +129,8 @@ END
         echo 'With --unchecked the graph is trusted: it is read by parts, and not checked.'
         echo 'With --newer the commits that the graph lacks are asked for, by their ids, on'
         echo 'standard output, and read from standard input. PATH may be left out then.'
-        echo 'paths asks for trees in the same way, for each commit N at most.'
+        echo 'paths asks for trees in the same way, for each commit N at most. With --exact'
+        echo 'each filter has to be the one that Git writes.'
     fi
     echo
     awk -v name="$name" '

@@ -95,10 +95,16 @@ def padding(size):
 
 
 def trees(size):
-    """A line of `size` commits, each of which changes one of eight files, with filters that have one bit less than all: no path needs it."""
-    written, most = (partial(eight_files, size=ID_SIZE[KIND]), b"\xfe" + b"\xff" * 31)
-    plan = Plan(KIND, [(), *((number,) for number in range(size))], [size, 1], filters=dict.fromkeys(range(size), most), trees=written)
+    """A line of `size` commits, each of which changes one of eight files, with the filters that Git writes of them."""
+    written = partial(eight_files, size=ID_SIZE[KIND])
+    filters = {number: OF_ONE[number % 8] if number else OF_EIGHT for number in range(size)}
+    plan = Plan(KIND, [(), *((number,) for number in range(size))], [size, 1], filters=filters, trees=written)
     return Shape("trees", plan, range(size - 1, -1, -1), (size - 1, 0), (size - 1, [0], [0], size - 1, 0))
+
+
+OF_EIGHT = bytes.fromhex("925be2b829343bdac633")
+OF_ONE = tuple(map(bytes.fromhex, ("a8aa", "249b", "2222", "1111", "aa54", "f803", "c718", "a552")))
+"""The filters that Git writes where files `f0` up to `f7` are changed, and one of them: of version 1, with 7 hashes and 10 bits for each."""
 
 
 def eight_files(number, size):

@@ -11,8 +11,8 @@ WORD = re.compile(r'word == b"([a-z-]+)"')
 
 
 def all_names():
-    """The names that the rows of a table have to have: of the commands, of those with `--unchecked`, with `--newer` and with both, of the
-    questions, and of the calls that the header declares."""
+    """The names that the rows of a table have to have: of the commands, of those with `--unchecked`, with `--newer` and with both, and with
+    `--exact`, of the questions, and of the calls that the header declares."""
     for command in commands():
         if command.word == "ask":
             yield from ("ask " + word for word in questions())
@@ -20,6 +20,8 @@ def all_names():
         yield command.word
         if command.may_be_unchecked():
             yield command.word + " --unchecked"
+        if command.reads == "limited":
+            yield command.word + " --exact"
         if command.reads == "newer":
             yield from (command.word + option for option in (" --newer", " --unchecked --newer"))
     yield from library.names()

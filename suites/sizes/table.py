@@ -9,6 +9,7 @@ and gives what was answered beside what it has to be. A call of Rust is made by 
 import collections
 import ctypes
 import os
+from functools import partial
 from typing import Any, Callable, NamedTuple, Tuple
 
 from sizes import answers, exports
@@ -137,31 +138,34 @@ def compared_newest(shape):
     return answers.lines([base, "ahead %d behind 0" % ahead, "visits %d-%d" % (ahead, 3 * shape.plan.count)])
 
 
-def checked_pairs(shape):
-    """The commits whose filters need trees, by their positions, each behind its first parent, if it has one."""
+def checked_pairs(shape, exact):
+    """The commits whose filters need trees, by their positions, each behind its first parent, if it has one: those that have a clear bit,
+    or all that were computed, where they have to be those that Git writes."""
     filters = shape.plan.filters or {}
-    return [[*shape.plan.parents[number][:1], number] for number in shape.order() if filters.get(number, b"").strip(b"\xff")]
+    needing = [number for number in shape.order() if filters.get(number, b"").strip(b"" if exact else b"\xff")]
+    return [[*shape.plan.parents[number][:1], number] for number in needing]
 
 
-def asked_trees(shape):
+def asked_trees(shape, exact):
     """The commits whose root trees are asked for, in order: each once, and where there are no trees the first alone."""
-    asked = list(dict.fromkeys(number for pair in checked_pairs(shape) for number in pair))
+    asked = list(dict.fromkeys(number for pair in checked_pairs(shape, exact) for number in pair))
     return asked if shape.plan.trees else asked[:1]
 
 
-def trees(shape):
+def trees(shape, exact=False):
     """The file with what Git writes of these trees."""
-    place = os.path.join(shape.folder, "trees")
+    place = os.path.join(shape.folder, "trees for %s filters" % ("Git's" if exact else "right"))
     with open(place, "wb") as file:
-        file.writelines(map(shape.plan.tree_entry, asked_trees(shape)))
+        file.writelines(map(shape.plan.tree_entry, asked_trees(shape, exact)))
     return place
 
 
-def held(shape):
-    """The lines that ask for these trees, an empty one, and what is told of the filters, which are right where there are trees."""
-    ids = [shape.plan.tree(number).hex() for number in asked_trees(shape)]
+def held(shape, exact=False):
+    """The lines that ask for these trees, an empty one, and what is told of the filters, which are those that Git writes where there are
+    trees."""
+    ids = [shape.plan.tree(number).hex() for number in asked_trees(shape, exact)]
     lacking = ids and not shape.plan.trees
-    position = shape.plan.positions[checked_pairs(shape)[0][-1]] if lacking else None
+    position = shape.plan.positions[checked_pairs(shape, exact)[0][-1]] if lacking else None
     told = "refused paths 4 position %d id %s" % (position, ids[0]) if lacking else answers.checked(shape).splitlines()[-1]
     return answers.lines([*ids, "", told])
 
@@ -289,6 +293,7 @@ COMMANDS = (
     Row("objects", UNREAD, path(), counted, stored),
     Row("objects: half", UNREAD, path(half), counted_half, stored_half),
     Row("paths", UNREAD, path(), held, trees),
+    Row("paths --exact", UNREAD, path(), partial(held, exact=True), partial(trees, exact=True)),
     Row("write", UNREAD, lambda shape: [], lambda shape: shape.one_file(), stored),
     Row("write: on top", UNREAD, lambda shape: [shape.below], lambda shape: shape.written, added),
     Row("merge", UNREAD, path(), lambda shape: shape.one_file(shape.plan.filters)),

@@ -11,7 +11,10 @@ use Rattle.std.specs.Prelude.{Bool, Result, Ok, Err, is_ok}
 use Rattle.std.specs.Global.{Global}
 use Rattle.object_commands.specs.AskedRange.{SpellsRange}
 use Rattle.object_commands.specs.declared.range.PositionRange.{PositionRange}
-use Rattle.historytool.specs.HistorytoolCommands.{AreQuestionWords, AskAfterName, AskHistorytool, IsId, IsOption}
+use Rattle.path_commands.specs.declared.standard.Standard.{Standard}
+use Rattle.path_commands.specs.declared.standard.Standard.TheVariants.{Right, Exact}
+use Rattle.historytool.specs.HistorytoolCommands.{ArePathsWords, AreQuestionWords, AskAfterName, AskHistorytool, IsId, IsOption}
+use Rattle.historytool.specs.HistorytoolCommands.{IsPathsOption}
 use Rattle.historytool.specs.declared.command.AskedGraph.{AskedGraph}
 use Rattle.historytool.specs.declared.command.AskedGraph.TheVariants as on
 use Rattle.historytool.specs.declared.command.Command.{Command}
@@ -32,6 +35,78 @@ long name one (on.Newer (Some path)) more words is = (codes "--newer", path.now,
 long name one (on.NewerUnchecked None) more words is = (codes "--unchecked", codes "--newer", one ∷ more, is.0)
 long name one (on.NewerUnchecked (Some path)) more words is =
     (codes "--unchecked", codes "--newer", path.now ∷ one ∷ more, is.0)
+
+-- the words of `paths` begin with its name, and go on
+paths_name : (standard : Standard) (trees : Option ℕ) (at name : List ℕ) (words : List (List ℕ))
+    → ArePathsWords standard trees at (name ∷ words) → name ≡ codes "paths"
+paths_name Right None at name words is = let e = is.0 in cc
+paths_name Right (Some trees) at name words is = let e = is.0 in cc
+paths_name Exact None at name words is = let e = is.0 in cc
+paths_name Exact (Some trees) at name words is = let e = is.0 in cc
+
+paths_some : (standard : Standard) (trees : Option ℕ) (at : List ℕ) → ¬ ArePathsWords standard trees at []
+paths_some Right None at is = let e = is.0 in cc
+paths_some Right (Some trees) at is = let e = is.0 in cc
+paths_some Exact None at is = let e = is.0 in cc
+paths_some Exact (Some trees) at is = let e = is.0 in cc
+
+paths_more : (standard : Standard) (trees : Option ℕ) (at name : List ℕ) → ¬ ArePathsWords standard trees at (name ∷ [])
+paths_more Right None at name is = let e = is.0 in cc
+paths_more Right (Some trees) at name is = let e = is.0 in cc
+paths_more Exact None at name is = let e = is.0 in cc
+paths_more Exact (Some trees) at name is = let e = is.0 in cc
+
+-- the word behind it is no option, if it is the last
+paths_last : (standard : Standard) (trees : Option ℕ) (at name word : List ℕ)
+    → ArePathsWords standard trees at (name ∷ word ∷ []) → ¬ IsPathsOption word
+paths_last Right None at name word is =
+    let e = is.0 in let same : at ≡ word = cc in subst (λ (w : List ℕ). ¬ IsPathsOption w) same is.1
+paths_last Right (Some trees) at name word is = let e = is.0 in cc
+paths_last Exact None at name word is = let e = is.0 in cc
+paths_last Exact (Some trees) at name word is = let e = is.0 in cc
+
+-- the options of `paths` are not the same, and the words behind each
+paths_apart : codes "--exact" ≡ codes "--trees" → ⊥
+paths_apart same =
+    let third : ◌≡◌ {A = ℕ} 101 116 = ap (λ (word : List ℕ). get_or word 2 0) same in omega arith
+
+pub limited_words : (standard : Standard) (trees : Option ℕ) (at number : List ℕ) (others : List (List ℕ))
+    → ArePathsWords standard trees at (codes "paths" ∷ codes "--trees" ∷ number ∷ others)
+    → (n : ℕ) × (number ≡ decimal n) × (n < 2 ^ 32) × (others ≡ at ∷ [])
+limited_words Right None at number others is = let e = is.0 in cc
+limited_words Right (Some n) at number others is = let e = is.0 in (n, cc, is.1, cc)
+limited_words Exact None at number others is =
+    let e = is.0 in let same : codes "--exact" ≡ codes "--trees" = cc in absurd (paths_apart same)
+limited_words Exact (Some n) at number others is =
+    let e = is.0 in let same : codes "--exact" ≡ codes "--trees" = cc in absurd (paths_apart same)
+
+pub exact_words : (standard : Standard) (trees : Option ℕ) (at first : List ℕ) (others : List (List ℕ))
+    → ArePathsWords standard trees at (codes "paths" ∷ codes "--exact" ∷ first ∷ others)
+    → ((first ≢ codes "--trees") × (others ≡ []))
+    ⊎ ((n : ℕ) × (first ≡ codes "--trees") × (n < 2 ^ 32) × (others ≡ decimal n ∷ at ∷ []))
+exact_words Right None at first others is = let e = is.0 in cc
+exact_words Right (Some n) at first others is =
+    let e = is.0 in let same : codes "--exact" ≡ codes "--trees" = cc in absurd (paths_apart same)
+exact_words Exact None at first others is =
+    let e = is.0 in let same : at ≡ first = cc in inl (subst (λ (w : List ℕ). w ≢ codes "--trees") same is.1, cc)
+exact_words Exact (Some n) at first others is = let e = is.0 in inr (n, cc, is.1, cc)
+
+-- as many words behind an option as it takes
+pub limited_count : (standard : Standard) (trees : Option ℕ) (at number : List ℕ) (others : List (String Global))
+    → ArePathsWords standard trees at (codes "paths" ∷ codes "--trees" ∷ number ∷ map string_bytes others)
+    → length others ≡ 1
+limited_count standard trees at number others is =
+    let words = limited_words standard trees at number (map string_bytes others) is in
+    sym (length-map others string_bytes) ∙ ap length words.3
+
+pub exact_count : (standard : Standard) (trees : Option ℕ) (at first : List ℕ) (others : List (String Global))
+    → ArePathsWords standard trees at (codes "paths" ∷ codes "--exact" ∷ first ∷ map string_bytes others)
+    → ((first ≢ codes "--trees") × (length others ≡ 0)) ⊎ ((first ≡ codes "--trees") × (length others ≡ 2))
+exact_count standard trees at first others is =
+    elim (exact_words standard trees at first (map string_bytes others) is) [
+      | inl plain ↦ inl (plain.0, sym (length-map others string_bytes) ∙ ap length plain.1)
+      | inr limited ↦ inr (limited.1, sym (length-map others string_bytes) ∙ ap length limited.3)
+    ]
 
 -- a name that asks alone
 pub named_alone : (help version name : List ℕ) (asked : Command) → AskAfterName help version (name ∷ []) asked
@@ -58,8 +133,7 @@ named_alone help version name (command.Ids path None) is = let e = is in cc
 named_alone help version name (command.Ids path (Some range)) is = let e = is.2 in cc
 named_alone help version name (command.Objects path None) is = let e = is in cc
 named_alone help version name (command.Objects path (Some range)) is = let e = is.2 in cc
-named_alone help version name (command.Paths path None) is = let e = is.0 in cc
-named_alone help version name (command.Paths path (Some trees)) is = let e = is.0 in cc
+named_alone help version name (command.Paths path standard trees) is = absurd (paths_more standard trees path.now name is)
 named_alone help version name (command.Write None) is = let e = is in inr (inr (inr cc))
 named_alone help version name (command.Write (Some path)) is = let e = is in cc
 named_alone help version name (command.Merge path) is = let e = is in cc
@@ -68,7 +142,7 @@ named_alone help version name (command.Merge path) is = let e = is in cc
 pub named_with_path : (help version name path : List ℕ) (asked : Command) → AskAfterName help version (name ∷ path ∷ []) asked
     → (name ≡ codes "check") ⊎ (name ≡ codes "show") ⊎ ((name ≡ codes "ask") × (¬ IsOption path))
     ⊎ (name ≡ codes "ids") ⊎ (name ≡ codes "objects")
-    ⊎ (name ≡ codes "write") ⊎ (name ≡ codes "merge") ⊎ ((name ≡ codes "paths") × (path ≢ codes "--trees"))
+    ⊎ (name ≡ codes "write") ⊎ (name ≡ codes "merge") ⊎ ((name ≡ codes "paths") × (¬ IsPathsOption path))
 named_with_path help version name path (command.Help text) is = elim is.0 [ inl e ↦ cc | inr e ↦ cc ]
 named_with_path help version name path (command.Version text) is = let e = is.0 in cc
 named_with_path help version name path (command.IsAncestor pair) is =
@@ -93,10 +167,9 @@ named_with_path help version name path (command.Ids at None) is = let e = is in 
 named_with_path help version name path (command.Ids at (Some range)) is = let e = is.2 in cc
 named_with_path help version name path (command.Objects at None) is = let e = is in inr (inr (inr (inr (inl cc))))
 named_with_path help version name path (command.Objects at (Some range)) is = let e = is.2 in cc
-named_with_path help version name path (command.Paths at None) is =
-    let e = is.0 in let same : at.now ≡ path = cc in
-    inr (inr (inr (inr (inr (inr (inr (cc, subst (λ (p : List ℕ). p ≢ codes "--trees") same is.1)))))))
-named_with_path help version name path (command.Paths at (Some trees)) is = let e = is.0 in cc
+named_with_path help version name path (command.Paths at standard trees) is =
+    let named = paths_name standard trees at.now name (path ∷ []) is in
+    inr (inr (inr (inr (inr (inr (inr (named, paths_last standard trees at.now name path is)))))))
 named_with_path help version name path (command.Write None) is = let e = is in cc
 named_with_path help version name path (command.Write (Some at)) is = let e = is in inr (inr (inr (inr (inr (inl cc)))))
 named_with_path help version name path (command.Merge at) is = let e = is in inr (inr (inr (inr (inr (inr (inl cc))))))
@@ -133,10 +206,11 @@ abbrev pub AskOfRange : List ℕ → List (String Global) → Type 0
 AskOfRange first others =
     (to : List ℕ) × (range : PositionRange) × (map string_bytes others ≡ to ∷ []) × SpellsRange first to range
 
--- the words of `paths --trees`
-abbrev pub AskOfTrees : List ℕ → List ℕ → List (String Global) → Type 0
-AskOfTrees option number others =
-    (trees : ℕ) × (option ≡ codes "--trees") × (number ≡ decimal trees) × (trees < 2 ^ 32) × (length others ≡ 1)
+-- the words behind `paths`, which have an option
+abbrev pub AskOfPaths : List ℕ → List ℕ → List (String Global) → Type 0
+AskOfPaths option first others =
+    (standard : Standard) × (trees : Option ℕ) × (at : List ℕ)
+    × ArePathsWords standard trees at (codes "paths" ∷ option ∷ first ∷ map string_bytes others)
 
 -- which name asks with a path and ids, and with which words
 abbrev pub NamedWithIds : List ℕ → List ℕ → List ℕ → List (String Global) → Type 0
@@ -145,7 +219,7 @@ NamedWithIds name path first others =
     ⊎ (IsOfRange name × AskOfRange first others)
     ⊎ (IsOfMany name × AskOfMany name (name ∷ path ∷ first ∷ map string_bytes others))
     ⊎ ((name ≡ codes "ask") × (path ≡ codes "--unchecked") × (first ≢ codes "--newer") × (others ≡ []))
-    ⊎ ((name ≡ codes "paths") × AskOfTrees path first others)
+    ⊎ ((name ≡ codes "paths") × AskOfPaths path first others)
 
 -- the name of a question is the first of its words
 named : (name other one : List ℕ) (graph : AskedGraph) (more rest : List (List ℕ))
@@ -209,11 +283,11 @@ named_with_ids help version name path first others (command.Objects at None) is 
 named_with_ids help version name path first others (command.Objects at (Some range)) is =
     let both = range_asked name first is.0 is.1 (codes "objects") path at.now others range is.2 is.3 in
     inr (inl (inr both.0, both.1))
-named_with_ids help version name path first others (command.Paths at None) is = let e = is.0 in cc
-named_with_ids help version name path first others (command.Paths at (Some trees)) is =
-    let e = is.0 in
-    let one : map string_bytes others ≡ at.now ∷ [] = cc in
-    inr (inr (inr (inr (cc, (trees, cc, cc, is.1, just_one others at.now one)))))
+named_with_ids help version name path first others (command.Paths at standard trees) is =
+    let named = paths_name standard trees at.now name (path ∷ first ∷ map string_bytes others) is in
+    let words = subst
+    (λ (n : List ℕ). ArePathsWords standard trees at.now (n ∷ path ∷ first ∷ map string_bytes others)) named is in
+    inr (inr (inr (inr (named, (standard, trees, at.now, words)))))
 named_with_ids help version name path first others (command.Write None) is = let e = is in cc
 named_with_ids help version name path first others (command.Write (Some at)) is = let e = is in cc
 named_with_ids help version name path first others (command.Merge at) is = let e = is in cc
@@ -331,8 +405,7 @@ none_asked help version (command.Ids path None) is = let e = is in cc
 none_asked help version (command.Ids path (Some range)) is = let e = is.2 in cc
 none_asked help version (command.Objects path None) is = let e = is in cc
 none_asked help version (command.Objects path (Some range)) is = let e = is.2 in cc
-none_asked help version (command.Paths path None) is = let e = is.0 in cc
-none_asked help version (command.Paths path (Some trees)) is = let e = is.0 in cc
+none_asked help version (command.Paths path standard trees) is = absurd (paths_some standard trees path.now is)
 none_asked help version (command.Write None) is = let e = is in cc
 none_asked help version (command.Write (Some path)) is = let e = is in cc
 none_asked help version (command.Merge path) is = let e = is in cc

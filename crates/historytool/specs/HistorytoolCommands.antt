@@ -14,6 +14,8 @@ use Rattle.show_commands.specs.Show.{MayShow, show_text, show_status}
 use Rattle.object_commands.specs.CommitIds.{MayListIds, ids_text, ids_status}
 use Rattle.object_commands.specs.ComparedObjects.{MayCompareObjects, objects_text, objects_status}
 use Rattle.path_commands.specs.ToldPaths.{MayTellPaths, most_trees, paths_text, paths_status}
+use Rattle.path_commands.specs.declared.standard.Standard.{Standard}
+use Rattle.path_commands.specs.declared.standard.Standard.TheVariants.{Right, Exact}
 use Rattle.question_commands.specs.Asking.{MayAsk, ask_text, ask_status}
 use Rattle.write_commands.specs.LayerAnswer.{written_text, written_status}
 use Rattle.write_commands.specs.WrittenCommits.{MayWriteLayer}
@@ -46,6 +48,10 @@ StartWithId (text ∷ texts) = IsId text
 abbrev pub IsOption : List ℕ → Type 0
 IsOption word = (word ≡ codes "--unchecked") ⊎ (word ≡ codes "--newer")
 
+-- a word says how filters are checked, so it is no path itself
+abbrev pub IsPathsOption : List ℕ → Type 0
+IsPathsOption word = (word ≡ codes "--exact") ⊎ (word ≡ codes "--trees")
+
 -- These are the words of a command about a graph, and ids if it takes some, after the program's own name: the path alone where
 -- the graph is checked; the word `--unchecked` before it where it is not; and the word `--newer`, behind that one, where newer
 -- commits stand on it, with no path where they stand on none.
@@ -60,6 +66,16 @@ AreQuestionWords name (graph.NewerUnchecked None) ids words =
     (words ≡ name ∷ codes "--unchecked" ∷ codes "--newer" ∷ ids) × StartWithId ids
 AreQuestionWords name (graph.NewerUnchecked (Some path)) ids words =
     (words ≡ name ∷ codes "--unchecked" ∷ codes "--newer" ∷ path.now ∷ ids) × (¬ IsId path.now)
+
+-- These are the words of `paths`: the path alone; the word `--exact` before it where filters have to be those that Git writes;
+-- and `--trees` with a number, behind that one, where it is said how many trees may be read.
+abbrev pub ArePathsWords : Standard → Option ℕ → List ℕ → List (List ℕ) → Type 0
+ArePathsWords Right None path words = (words ≡ codes "paths" ∷ path ∷ []) × (¬ IsPathsOption path)
+ArePathsWords Right (Some trees) path words =
+    (words ≡ codes "paths" ∷ codes "--trees" ∷ decimal trees ∷ path ∷ []) × (trees < 2 ^ 32)
+ArePathsWords Exact None path words = (words ≡ codes "paths" ∷ codes "--exact" ∷ path ∷ []) × (path ≢ codes "--trees")
+ArePathsWords Exact (Some trees) path words =
+    (words ≡ codes "paths" ∷ codes "--exact" ∷ codes "--trees" ∷ decimal trees ∷ path ∷ []) × (trees < 2 ^ 32)
 
 -- the words after the program's own name ask for this command, given the texts of the help and of the version
 abbrev pub AskAfterName : List ℕ → List ℕ → List (List ℕ) → Command → Type 0
@@ -86,10 +102,7 @@ AskAfterName help version words (command.Ids path (Some range)) =
 AskAfterName help version words (command.Objects path None) = words ≡ codes "objects" ∷ path.now ∷ []
 AskAfterName help version words (command.Objects path (Some range)) =
     (from to : List ℕ) × (words ≡ codes "objects" ∷ path.now ∷ from ∷ to ∷ []) × SpellsRange from to range
-AskAfterName help version words (command.Paths path None) =
-    (words ≡ codes "paths" ∷ path.now ∷ []) × (path.now ≢ codes "--trees")
-AskAfterName help version words (command.Paths path (Some trees)) =
-    (words ≡ codes "paths" ∷ codes "--trees" ∷ decimal trees ∷ path.now ∷ []) × (trees < 2 ^ 32)
+AskAfterName help version words (command.Paths path standard trees) = ArePathsWords standard trees path.now words
 AskAfterName help version words (command.Write None) = words ≡ codes "write" ∷ []
 AskAfterName help version words (command.Write (Some path)) = words ≡ codes "write" ∷ path.now ∷ []
 AskAfterName help version words (command.Merge path) = words ≡ codes "merge" ∷ path.now ∷ []
@@ -159,9 +172,9 @@ HistorytoolMayWrite (command.Ids path range) input unread IsLeftAlone MayOpenAt 
 HistorytoolMayWrite (command.Objects path range) input unread IsLeftAlone MayOpenAt before after old new status =
     WritesAnswer objects_text objects_status
     (MayCompareObjects range input unread (MayOpenAt path.now before after)) old new status
-HistorytoolMayWrite (command.Paths path trees) input unread IsLeftAlone MayOpenAt before after old new status =
+HistorytoolMayWrite (command.Paths path standard trees) input unread IsLeftAlone MayOpenAt before after old new status =
     WritesAnswer paths_text paths_status
-    (MayTellPaths (most_trees trees) input unread (MayOpenAt path.now before after)) old new status
+    (MayTellPaths standard (most_trees trees) input unread (MayOpenAt path.now before after)) old new status
 HistorytoolMayWrite (command.Write path) input unread IsLeftAlone MayOpenAt before after old new status =
     WritesAnswer written_text written_status
     (MayWriteLayer (option_map (λ p. p.now) path) IsLeftAlone (λ at. MayOpenAt at before after) input unread) old new status

@@ -1,10 +1,11 @@
 //! The commands of `historytool`, by the words of a command line.
 
-ghost use Rattle.std.specs.Prelude.{◌≡◌, ◌≢◌, ◌<◌, ◌^◌, ◌↔◌, ◌∷◌, [], ℕ, List, IfOk, IfSome};
-ghost use Rattle.std.specs.Prelude.{IsNone, IsTrue, codes, decimal, length, map, string_bytes};
-ghost use Rattle.historytool.specs.HistorytoolCommands.{AreQuestionWords, AskAfterName};
-ghost use Rattle.historytool.specs.HistorytoolCommands.{AskHistorytool, IsId, IsOption, TellsOf};
-ghost use Rattle.historytool.specs.HistorytoolCommands.{TellsOfItself};
+ghost use Rattle.std.specs.Prelude.{◌≡◌, ◌≢◌, ◌↔◌, ◌∷◌, [], ℕ, List, IfOk, IfSome};
+ghost use Rattle.std.specs.Prelude.{IsNone, IsTrue, Option, codes, map, string_bytes};
+ghost use Rattle.historytool.specs.HistorytoolCommands.{ArePathsWords, AreQuestionWords};
+ghost use Rattle.historytool.specs.HistorytoolCommands.{AskAfterName};
+ghost use Rattle.historytool.specs.HistorytoolCommands.{AskHistorytool, IsId, IsOption};
+ghost use Rattle.historytool.specs.HistorytoolCommands.{IsPathsOption, TellsOf, TellsOfItself};
 ghost use Rattle.history_commands.specs.SpelledQuestions.{spelled_name, spelled_texts};
 ghost use Rattle.graph_commands.specs.OpenerAnswer.{MayOpen};
 ghost use Rattle.graph_commands.specs.WrittenAnswer.{WritesAnswer};
@@ -13,6 +14,7 @@ ghost use Rattle.object_commands.specs.declared.range.PositionRange as declared;
 ghost use Rattle.question_commands.specs.Asking.{MayAsk, ask_status, ask_text};
 ghost use Rattle.historytool.specs.declared.command.AskedGraph.{AskedGraph};
 ghost use Rattle.historytool.specs.declared.command.Command.{Command};
+ghost use Rattle.path_commands.specs.declared.standard.Standard.{Standard};
 
 use answer_lines::reply::Form::{self, IdsAlone, Whole};
 use gix_hash_core::ObjectId;
@@ -25,7 +27,7 @@ use history_commands::run::{run_check, run_spelled};
 use newer_commands::run::run_spelled_newer;
 use newer_unchecked::run::run_spelled_newer_unchecked;
 use object_commands::{PositionRange, number_in, run_ids, run_objects};
-use path_commands::run_paths;
+use path_commands::{Standard, run_paths};
 use question_commands::asking::run_ask;
 use question_commands::others::Nobody;
 use show_commands::run::run_show;
@@ -107,6 +109,8 @@ pub enum Command<'a> {
     Paths {
         /// The path of the graph.
         path: &'a str,
+        /// What each filter has to be.
+        standard: Standard,
         /// How many trees may be read for a commit; 2^22, where it is none.
         trees: Option<u32>,
     },
@@ -261,7 +265,7 @@ impl<'a> Command<'a> {
                 let range = Some(range_of(first, others)?);
                 Some(Command::Objects { path, range })
             }
-            "paths" => Command::limited_paths(path, first, others),
+            "paths" => Command::paths_with(path, first, others),
             _ => None,
         }
     }
@@ -301,31 +305,83 @@ impl<'a> Command<'a> {
     fn paths(path: &'a str) -> Option<Command<'a>>
         ensures asked { (help version : List ℕ)
             → IfSome result (AskAfterName help version (codes "paths" ∷ path.now ∷ [])) }
-        ensures other { IsNone result → path.now ≡ codes "--trees" }
+        ensures other { IsNone result → IsPathsOption path.now }
     {
         match path {
-            "--trees" => None,
-            _ => Some(Command::Paths { path, trees: None }),
+            "--exact" | "--trees" => None,
+            _ => Some(Command::Paths {
+                path,
+                standard: Standard::Right,
+                trees: None,
+            }),
+        }
+    }
+
+    /// `paths` with an option behind it, if the words after that are those that it takes.
+    fn paths_with(option: &str, first: &'a str, others: &'a [String]) -> Option<Command<'a>>
+        ensures asked { (help version : List ℕ) → IfSome result (AskAfterName help version
+            (codes "paths" ∷ option.now ∷ first.now ∷ map string_bytes others.now)) }
+        ensures other { IsNone result → (standard : Standard) (trees : Option ℕ) (at : List ℕ)
+            → ¬ ArePathsWords standard trees at
+            (codes "paths" ∷ option.now ∷ first.now ∷ map string_bytes others.now) }
+    {
+        match option {
+            "--exact" => Command::exact_paths(first, others),
+            "--trees" => Command::limited_paths(first, others),
+            _ => None,
         }
     }
 
     /// `paths --trees`, if the next word is a number, and the one after that the last.
-    fn limited_paths(option: &str, number: &str, others: &'a [String]) -> Option<Command<'a>>
+    fn limited_paths(number: &str, others: &'a [String]) -> Option<Command<'a>>
         ensures asked { (help version : List ℕ) → IfSome result (AskAfterName help version
-            (codes "paths" ∷ option.now ∷ number.now ∷ map string_bytes others.now)) }
-        ensures other { IsNone result → (trees : ℕ) → ¬ ((option.now ≡ codes "--trees")
-            × (number.now ≡ decimal trees) × (trees < 2 ^ 32) × (length others.now ≡ 1)) }
+            (codes "paths" ∷ codes "--trees" ∷ number.now ∷ map string_bytes others.now)) }
+        ensures other { IsNone result → (standard : Standard) (trees : Option ℕ) (at : List ℕ)
+            → ¬ ArePathsWords standard trees at
+            (codes "paths" ∷ codes "--trees" ∷ number.now ∷ map string_bytes others.now) }
     {
-        match option {
+        match others {
+            [] => None,
+            [path] => {
+                let trees = Some(number_in(number)?);
+                Some(Command::Paths {
+                    path,
+                    standard: Standard::Right,
+                    trees,
+                })
+            }
+            _ => None,
+        }
+    }
+
+    /// `paths --exact`, if the next word is the last, and no option, or if it is `--trees`, and a
+    /// number and the last word follow.
+    fn exact_paths(first: &'a str, others: &'a [String]) -> Option<Command<'a>>
+        ensures asked { (help version : List ℕ) → IfSome result (AskAfterName help version
+            (codes "paths" ∷ codes "--exact" ∷ first.now ∷ map string_bytes others.now)) }
+        ensures other { IsNone result → (standard : Standard) (trees : Option ℕ) (at : List ℕ)
+            → ¬ ArePathsWords standard trees at
+            (codes "paths" ∷ codes "--exact" ∷ first.now ∷ map string_bytes others.now) }
+    {
+        match first {
             "--trees" => match others {
                 [] => None,
-                [path] => {
-                    let trees = Some(number_in(number)?);
-                    Some(Command::Paths { path, trees })
-                }
+                [_] => None,
+                [number, path] => Some(Command::Paths {
+                    path,
+                    standard: Standard::Exact,
+                    trees: Some(number_in(number)?),
+                }),
                 _ => None,
             },
-            _ => None,
+            _ => match others {
+                [] => Some(Command::Paths {
+                    path: first,
+                    standard: Standard::Exact,
+                    trees: None,
+                }),
+                _ => None,
+            },
         }
     }
 }
@@ -512,9 +568,11 @@ impl Run for Command<'_> {
             Command::Objects { path, range } => {
                 run_objects(alloc, input, folder, path, range, output)
             }
-            Command::Paths { path, trees } => {
-                run_paths(alloc, input, folder, path, trees, output)
-            }
+            Command::Paths {
+                path,
+                standard,
+                trees,
+            } => run_paths(alloc, input, folder, path, standard, trees, output),
             Command::Write { path } => run_write(alloc, input, folder, path, output),
             Command::Merge { path } => run_merge(alloc, folder, path, output),
         }

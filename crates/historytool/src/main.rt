@@ -22,14 +22,14 @@ const USAGE: &str = "usage: historytool is-ancestor [--unchecked] [--newer] PATH
     | merge-base [--unchecked] [--newer] PATH HEX HEX.. \
     | merge-base-ids [--unchecked] [--newer] PATH HEX HEX.. | check PATH | show PATH \
     | ask [--unchecked] PATH | ids PATH [FROM TO] | objects PATH [FROM TO] | write [PATH] \
-    | paths [--trees N] PATH | merge PATH | --help | --version";
+    | paths [--exact] [--trees N] PATH | merge PATH | --help | --version";
 
 const HELP: &str = "usage: historytool is-ancestor [--unchecked] [--newer] PATH HEX HEX \
     | walk [--unchecked] [--newer] PATH HEX HEX \
     | merge-base [--unchecked] [--newer] PATH HEX HEX.. \
     | merge-base-ids [--unchecked] [--newer] PATH HEX HEX.. | check PATH | show PATH \
     | ask [--unchecked] PATH | ids PATH [FROM TO] | objects PATH [FROM TO] | write [PATH] \
-    | paths [--trees N] PATH | merge PATH | --help | --version\n\
+    | paths [--exact] [--trees N] PATH | merge PATH | --help | --version\n\
     \n\
     PATH is a commit-graph file, a folder with a chain of them, or an info folder.\n\
     HEX is the id of a commit in hexadecimal.\n\
@@ -69,8 +69,9 @@ const HELP: &str = "usage: historytool is-ancestor [--unchecked] [--newer] PATH 
     paths           the ids of trees, a line each, of which standard input has to give\n\
     \x20               what git cat-file --batch answers, and an empty line; then how\n\
     \x20               many commits have a changed-path filter, once each was found to\n\
-    \x20               have all paths that its commit touches; or the first thing that\n\
-    \x20               is wrong. For each commit N trees are read at most, or 4194304\n\
+    \x20               have all paths that its commit touches, or with --exact to be the\n\
+    \x20               one that Git writes; or the first thing that is wrong. For each\n\
+    \x20               commit N trees are read at most, or 4194304\n\
     write           the file of a layer with the commits on standard input, which\n\
     \x20               git cat-file --batch writes, for the top of the graph at PATH,\n\
     \x20               or else of none\n\

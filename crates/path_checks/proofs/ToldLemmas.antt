@@ -1,16 +1,9 @@
 -- What is told of a check.
-use Rattle.std.proofs.Common.{◌≡◌, ℕ, List, Option, subst}
+use Rattle.std.proofs.Common.{subst}
 use Rattle.std.specs.Prelude.{Result, Ok, Err, IfErr, OnOk}
-use Rattle.gix_hash_core.specs.declared.kind.Kind.{Kind}
-use Rattle.graph_format.specs.Layer.{Layer}
-use Rattle.graph_chunks.specs.GraphFilters.{FiltersOfGraph}
-use Rattle.tree_changes.specs.Stands.{World}
-use Rattle.tree_changes.specs.declared.changes.Limits.{Limits}
-use Rattle.tree_requests.specs.TreeRefusal.{IsNotGiven}
 use Rattle.tree_requests.specs.declared.error.TreeRequestError.{TreeRequestError}
-use Rattle.filter_checks.specs.Refused.{IsFirstRefused}
 use Rattle.filter_checks.specs.declared.refusal.RefusedFilter.{RefusedFilter}
-use Rattle.path_checks.specs.RightByStream.{AgreesWith, MayRefuseOfKind}
+use Rattle.path_checks.specs.RightByStream.{MayTellOf}
 use Rattle.path_checks.specs.ToldFault.{IsToldBy}
 use Rattle.path_checks.specs.declared.error.PathsError.{PathsError}
 use Rattle.path_checks.specs.declared.error.PathsError.TheVariants.{Filter, Device, OutOfMemory, WriteFailed}
@@ -21,27 +14,24 @@ pub told_right : {X : Type 0} (checked : Result X (RefusedFilter TreeRequestErro
 told_right checked (Ok x) P is right = subst (λ (r : Result _ (RefusedFilter TreeRequestError)). OnOk r P) is right
 told_right checked (Err error) P is right = tt
 
--- in each world that agrees with a stream, this filter is the first that is refused
-abbrev pub IsRefusedInAll : Kind → Option (List ℕ) → Limits → List Layer → FiltersOfGraph → RefusedFilter TreeRequestError
-    → Type 0
-IsRefusedInAll kind stream limits layers all fault =
-    (world : World) → AgreesWith kind stream world → IsFirstRefused (IsNotGiven kind stream) limits world layers all fault
-
 -- a filter that is refused is told by its fault
-pub told_refused : {X : Type 0} (kind : Kind) (stream : Option (List ℕ)) (limits : Limits) (layers : List Layer)
-    (all : FiltersOfGraph) (checked : Result X (RefusedFilter TreeRequestError)) (told : Result X PathsError)
-    → IsToldBy checked told → IfErr checked (IsRefusedInAll kind stream limits layers all)
-    → IfErr told (MayRefuseOfKind kind stream limits layers all)
-told_refused kind stream limits layers all checked (Ok x) is refused = tt
-told_refused kind stream limits layers all checked (Err (Filter pos fault)) is refused =
-    let told = subst
-    (λ (r : Result _ (RefusedFilter TreeRequestError)). IfErr r (IsRefusedInAll kind stream limits layers all)) is.2 refused in
+pub told_refused : {X : Type 0} (P : RefusedFilter TreeRequestError → Type 0)
+    (checked : Result X (RefusedFilter TreeRequestError)) (told : Result X PathsError)
+    → IsToldBy checked told → IfErr checked P → IfErr told (MayTellOf P)
+told_refused P checked (Ok x) is refused = tt
+told_refused P checked (Err (Filter pos fault)) is refused =
+    let told = subst (λ (r : Result _ (RefusedFilter TreeRequestError)). IfErr r P) is.2 refused in
     (is.0, is.1, told)
-told_refused kind stream limits layers all checked (Err Device) is refused = tt
-told_refused kind stream limits layers all checked (Err OutOfMemory) is refused = tt
-told_refused kind stream limits layers all checked (Err WriteFailed) is refused = tt
+told_refused P checked (Err Device) is refused = tt
+told_refused P checked (Err OutOfMemory) is refused = tt
+told_refused P checked (Err WriteFailed) is refused = tt
 
 -- with a weaker claim
 pub on_ok_weaker : {X E : Type 0} (result : Result X E) (P Q : Type 0) → (P → Q) → OnOk result P → OnOk result Q
 on_ok_weaker (Ok x) P Q weaker it = weaker it
 on_ok_weaker (Err error) P Q weaker it = tt
+
+pub if_err_weaker : {X E : Type 0} (result : Result X E) (P Q : E → Type 0) → ((error : E) → P error → Q error)
+    → IfErr result P → IfErr result Q
+if_err_weaker (Ok x) P Q weaker it = tt
+if_err_weaker (Err error) P Q weaker it = weaker error it

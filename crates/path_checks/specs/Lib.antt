@@ -1,3 +1,5 @@
 pub mod NamedLoan
 pub mod RightByStream
+pub mod GitSettings
+pub mod WrittenByStream
 pub mod ToldFault

@@ -14,10 +14,12 @@ use Rattle.filter_checks.specs.RightFilters.{AreRightFilters}
 use Rattle.filter_checks.specs.Refused.{IsFirstRefused}
 use Rattle.filter_checks.specs.declared.refusal.FilterRefusal.{FilterRefusal}
 use Rattle.filter_checks.specs.declared.refusal.FilterRefusal.TheVariants as why
+use Rattle.filter_checks.specs.declared.refusal.RefusedFilter.{RefusedFilter}
 use Rattle.path_checks.specs.declared.error.PathsError.{PathsError}
 use Rattle.path_checks.specs.declared.error.PathsError.TheVariants.{Filter, Device, OutOfMemory, WriteFailed}
 use Rattle.path_checks.specs.declared.error.PathsFault.{PathsFault}
-use Rattle.path_checks.specs.declared.error.PathsFault.TheVariants.{Entry, Unreadable, Order, TooDeep, TooMuch, Lacks, Other}
+use Rattle.path_checks.specs.declared.error.PathsFault.TheVariants.{Entry, Unreadable, Order, TooDeep, TooMuch, Lacks}
+use Rattle.path_checks.specs.declared.error.PathsFault.TheVariants.{Differs, Other}
 
 -- all layers have ids of this kind
 abbrev pub IsKindOf : Kind → List Layer → Type 0
@@ -44,20 +46,28 @@ IsFaultOf refusal (Order id entry) = refusal ≡ why.Trees (trees.Source (unorde
 IsFaultOf refusal TooDeep = refusal ≡ why.Trees trees.TooDeep
 IsFaultOf refusal TooMuch = refusal ≡ why.Trees trees.TooMuch
 IsFaultOf refusal (Lacks path) = refusal ≡ why.Lacks path
-IsFaultOf refusal Other =
-    (refusal ≡ why.Trees trees.TooMany) ⊎ (refusal ≡ why.Trees (trees.Source NoId)) ⊎ (refusal ≡ why.Differs)
+IsFaultOf refusal Differs = refusal ≡ why.Differs
+IsFaultOf refusal Other = (refusal ≡ why.Trees trees.TooMany) ⊎ (refusal ≡ why.Trees (trees.Source NoId))
 
--- why the filters of a graph are not found right: in each world that agrees with the stream, this filter is the first that is
--- refused; where a tree is not given, the stream does not go on with it, or its contents are none. Reads and writes may fail, and
--- memory run out
-abbrev pub MayRefuseOfKind : Kind → Option (List ℕ) → Limits → List Layer → FiltersOfGraph → PathsError → Type 0
-MayRefuseOfKind kind stream limits layers all (Filter pos fault) =
+-- what is told of a filter that is refused: its fault. Reads and writes may fail, and memory run out
+abbrev pub MayTellOf : (RefusedFilter TreeRequestError → Type 0) → PathsError → Type 0
+MayTellOf IsRefused (Filter pos fault) =
     (refusal : FilterRefusal TreeRequestError) × IsFaultOf refusal fault
-    × ((world : World) → AgreesWith kind stream world
-    → IsFirstRefused (IsNotGiven kind stream) limits world layers all (record { pos = pos; why = refusal }))
-MayRefuseOfKind kind stream limits layers all Device = ⊤
-MayRefuseOfKind kind stream limits layers all OutOfMemory = ⊤
-MayRefuseOfKind kind stream limits layers all WriteFailed = ⊤
+    × IsRefused (record { pos = pos; why = refusal })
+MayTellOf IsRefused Device = ⊤
+MayTellOf IsRefused OutOfMemory = ⊤
+MayTellOf IsRefused WriteFailed = ⊤
+
+-- in each world that agrees with the stream, this filter is the first that is refused; where a tree is not given, the stream does
+-- not go on with it, or its contents are none
+abbrev pub IsRefusedInAll : Kind → Option (List ℕ) → Limits → List Layer → FiltersOfGraph → RefusedFilter TreeRequestError
+    → Type 0
+IsRefusedInAll kind stream limits layers all fault =
+    (world : World) → AgreesWith kind stream world → IsFirstRefused (IsNotGiven kind stream) limits world layers all fault
+
+-- why the filters of a graph are not found right
+abbrev pub MayRefuseOfKind : Kind → Option (List ℕ) → Limits → List Layer → FiltersOfGraph → PathsError → Type 0
+MayRefuseOfKind kind stream limits layers all = MayTellOf (IsRefusedInAll kind stream limits layers all)
 
 -- the same, where the ids are of the kind of the graph
 abbrev pub AreRightByStream : Option (List ℕ) → List Layer → FiltersOfGraph → Type 0

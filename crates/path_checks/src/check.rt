@@ -100,7 +100,7 @@ fn check_owned<E: Exchange, R: Read, W: Write>(
 }
 
 /// What is told of a check, once it is known why no more trees could be read, if that is so.
-fn told_of(
+pub(crate) fn told_of(
     checked: Result<(), RefusedFilter<TreeRequestError>>,
     broken: Option<RequestError>,
 ) -> Result<(), PathsError>

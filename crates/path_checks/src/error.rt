@@ -34,6 +34,8 @@ pub enum PathsFault {
     TooMuch,
     /// The filter answers this path as absent, and the commit touches it.
     Lacks(Vec<u8>),
+    /// Git writes another filter for what the commit changes.
+    Differs,
     /// Another one, to which no repository comes: the commit changes 2^64 paths or more, or the id
     /// of a tree has neither 20 bytes nor 32.
     Other,

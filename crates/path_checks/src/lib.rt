@@ -9,7 +9,10 @@
 mod check;
 mod error;
 mod lent;
+mod settings;
 mod told;
+mod written;
 
 pub use check::check_by_requests;
 pub use error::{PathsError, PathsFault};
+pub use written::check_written_by_requests;

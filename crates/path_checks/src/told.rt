@@ -16,7 +16,7 @@ pub(crate) fn error_of(pos: Position, why: FilterRefusal<TreeRequestError>) -> P
     match why {
         FilterRefusal::Lacks(path) => PathsError::Filter(pos, PathsFault::Lacks(path)),
         FilterRefusal::Trees(refusal) => error_of_trees(pos, refusal),
-        FilterRefusal::Differs => PathsError::Filter(pos, PathsFault::Other),
+        FilterRefusal::Differs => PathsError::Filter(pos, PathsFault::Differs),
     }
 }
 

@@ -6,7 +6,8 @@ use Rattle.object_stream.specs.declared.error.EntryError.TheVariants as entry
 use Rattle.graph_commands.specs.Text.{◌⧺◌}
 use Rattle.history_commands.specs.Check.{check_refusal_text}
 use Rattle.path_checks.specs.declared.error.PathsFault.{PathsFault}
-use Rattle.path_checks.specs.declared.error.PathsFault.TheVariants.{Entry, Unreadable, Order, TooDeep, TooMuch, Lacks, Other}
+use Rattle.path_checks.specs.declared.error.PathsFault.TheVariants.{Entry, Unreadable, Order, TooDeep, TooMuch, Lacks}
+use Rattle.path_checks.specs.declared.error.PathsFault.TheVariants.{Differs, Other}
 use Rattle.path_commands.specs.QuotedPath.{quoted_path}
 use Rattle.path_commands.specs.declared.refusal.PathsRefusal.{PathsRefusal}
 use Rattle.path_commands.specs.declared.refusal.PathsRefusal.TheVariants.{Common, Filter}
@@ -28,7 +29,8 @@ fault_number (Order id number) = 8
 fault_number TooDeep = 9
 fault_number TooMuch = 10
 fault_number (Lacks path) = 11
-fault_number Other = 12
+fault_number Differs = 12
+fault_number Other = 13
 
 -- what is told besides: the number of an entry, which counts from 0, an id in lower-case hexadecimal, or a path in quotes
 abbrev pub fault_details : PathsFault → List ℕ
@@ -38,6 +40,7 @@ fault_details (Order id number) = codes " entry " ⧺ decimal number ⧺ codes "
 fault_details TooDeep = codes ""
 fault_details TooMuch = codes ""
 fault_details (Lacks path) = codes " path " ⧺ quoted_path path.items
+fault_details Differs = codes ""
 fault_details Other = codes ""
 
 -- why the filters of a graph are not found right

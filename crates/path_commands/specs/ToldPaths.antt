@@ -10,6 +10,7 @@ use Rattle.graph_layer.specs.declared.opening.error.OpenError.{OpenError}
 use Rattle.graph_folder.specs.declared.folder.ReadError.TheVariants as read
 use Rattle.graph_chunks.specs.GraphFilters.{FiltersOfGraph, graph_filters, graph_filters_refusal, is_computed, settings_of}
 use Rattle.path_checks.specs.RightByStream.{AreRightByStream, MayRefuseByStream}
+use Rattle.path_checks.specs.WrittenByStream.{AreWrittenByStream, MayDifferByStream}
 use Rattle.path_checks.specs.declared.error.PathsError.{PathsError}
 use Rattle.path_checks.specs.declared.error.PathsError.TheVariants as error
 use Rattle.graph_commands.specs.Text.{◌⧺◌, newline}
@@ -20,8 +21,10 @@ use Rattle.history_commands.specs.declared.check.CheckRefusal.TheVariants.{Graph
 use Rattle.path_commands.specs.PathsLines.{paths_refusal_text}
 use Rattle.path_commands.specs.declared.refusal.PathsRefusal.{PathsRefusal}
 use Rattle.path_commands.specs.declared.refusal.PathsRefusal.TheVariants.{Common, Filter}
+use Rattle.path_commands.specs.declared.standard.Standard.{Standard}
+use Rattle.path_commands.specs.declared.standard.Standard.TheVariants.{Right, Exact}
 
--- how many filters were computed, if some layer has filters; or why they are not found right
+-- how many filters were computed, if some layer has filters; or why they are not found to be up to the standard
 abbrev pub PathsVerdict : Type 0
 PathsVerdict = Result (Option ℕ) PathsRefusal
 
@@ -35,7 +38,7 @@ abbrev pub paths_verdict_text : PathsVerdict → List ℕ
 paths_verdict_text (Ok computed) = commits_line (codes "filters") computed
 paths_verdict_text (Err refusal) = paths_refusal_text refusal ⧺ newline
 
--- 0 where the filters are found right, and else 1
+-- 0 where the filters are found to be up to the standard, and else 1
 abbrev pub paths_verdict_status : PathsVerdict → ℕ
 paths_verdict_status (Ok computed) = 0
 paths_verdict_status (Err refusal) = 1
@@ -58,37 +61,52 @@ filters_of_layers layers = record { settings = settings_of layers; filters = gra
 abbrev pub most_trees : Option ℕ → ℕ
 most_trees asked = unwrap_or asked (2 ^ 22)
 
--- why the filters of a right graph are not found right, by the trees that stand in a stream, where so many may be read for a
--- commit: they are refused whatever the trees are; else that of a commit is, the first. Any read may fail, and memory run out
-abbrev pub MayRefusePaths : ℕ → Option (List ℕ) → List Layer → PathsRefusal → Type 0
-MayRefusePaths trees stream layers (Filter pos fault) =
-    (graph_filters_refusal layers ≡ None)
-    × MayRefuseByStream stream trees layers (filters_of_layers layers) (error.Filter pos fault)
-MayRefusePaths trees stream layers (Common (Filters error)) = MayRefuseFilters layers error
-MayRefusePaths trees stream layers (Common (Dates error)) = ⊥
-MayRefusePaths trees stream layers (Common (Graph (Read read.Device))) = ⊤
-MayRefusePaths trees stream layers (Common (Graph Walk)) = ⊤
-MayRefusePaths trees stream layers (Common (Graph refusal)) = ⊥
+-- the filters of a graph are up to a standard, by the trees that stand in a stream: right, or those that Git writes
+abbrev pub AreUpTo : Standard → Option (List ℕ) → List Layer → FiltersOfGraph → Type 0
+AreUpTo Right = AreRightByStream
+AreUpTo Exact = AreWrittenByStream
 
--- what is found of a right graph: so many filters were computed, and all are right by the trees that stand in the stream; or why
--- they are not found right
-abbrev pub MayFindPaths : ℕ → Option (List ℕ) → List Layer → PathsVerdict → Type 0
-MayFindPaths trees stream layers (Ok computed) =
-    AreFiltersFound layers computed × AreRightByStream stream layers (filters_of_layers layers)
-MayFindPaths trees stream layers (Err refusal) = MayRefusePaths trees stream layers refusal
+-- why they are not found to be, where so many trees may be read for a commit
+abbrev pub MayFallShort : Standard → Option (List ℕ) → ℕ → List Layer → FiltersOfGraph → PathsError → Type 0
+MayFallShort Right = MayRefuseByStream
+MayFallShort Exact = MayDifferByStream
+
+-- why the filters of a right graph are not found to be up to a standard: they are refused whatever the trees are; else that of a
+-- commit is, the first. Any read may fail, and memory run out
+abbrev pub MayRefusePaths : Standard → ℕ → Option (List ℕ) → List Layer → PathsRefusal → Type 0
+MayRefusePaths standard trees stream layers (Filter pos fault) =
+    (graph_filters_refusal layers ≡ None)
+    × MayFallShort standard stream trees layers (filters_of_layers layers) (error.Filter pos fault)
+MayRefusePaths standard trees stream layers (Common (Filters error)) = MayRefuseFilters layers error
+MayRefusePaths standard trees stream layers (Common (Dates error)) = ⊥
+MayRefusePaths standard trees stream layers (Common (Graph (Read read.Device))) = ⊤
+MayRefusePaths standard trees stream layers (Common (Graph Walk)) = ⊤
+MayRefusePaths standard trees stream layers (Common (Graph refusal)) = ⊥
+
+-- what is found of a right graph: so many filters were computed, and all are up to the standard; or why they are not found to be
+abbrev pub MayFindPaths : Standard → ℕ → Option (List ℕ) → List Layer → PathsVerdict → Type 0
+MayFindPaths standard trees stream layers (Ok computed) =
+    AreFiltersFound layers computed × AreUpTo standard stream layers (filters_of_layers layers)
+MayFindPaths standard trees stream layers (Err refusal) = MayRefusePaths standard trees stream layers refusal
 
 -- what `paths` may tell, given what the opener may answer, and what the reader has before and after, where that is known: why
 -- there is no right graph, before anything is asked for or read; or what is found of it
-abbrev pub MayTellPaths : ℕ → Option (List ℕ) → Option (List ℕ) → (Result (List Layer) OpenError → Type 0) → ToldPaths → Type 0
-MayTellPaths trees before after MayOpen told =
+abbrev pub MayTellPaths : Standard → ℕ → Option (List ℕ) → Option (List ℕ) → (Result (List Layer) OpenError → Type 0) → ToldPaths
+    → Type 0
+MayTellPaths standard trees before after MayOpen told =
     ((refusal : Refusal) × MayRefuseToStart MayOpen refusal × (told.asked ≡ []) × (told.verdict ≡ Err (Common (Graph refusal)))
     × Keeps before after)
-    ⊎ ((layers : List Layer) × MayOpen (Ok layers) × Sound layers × MayFindPaths trees before layers told.verdict)
+    ⊎ ((layers : List Layer) × MayOpen (Ok layers) × Sound layers × MayFindPaths standard trees before layers told.verdict)
 
--- For private contracts: lines were written that ask for some ids, and this is found then
-abbrev pub IsAskedAndFound : ℕ → Option (List ℕ) → List Layer → Option (List ℕ) → Option (List ℕ) → PathsVerdict → Type 0
-IsAskedAndFound trees stream layers before now verdict =
-    (ids : List (List ℕ)) × Appends before now (asking_lines ids) × MayFindPaths trees stream layers verdict
+-- For private contracts: lines were written that ask for some ids
+abbrev pub AreAskingLines : Option (List ℕ) → Option (List ℕ) → Type 0
+AreAskingLines before now = (ids : List (List ℕ)) × Appends before now (asking_lines ids)
+
+-- and this is found then
+abbrev pub IsAskedAndFound : Standard → ℕ → Option (List ℕ) → List Layer → Option (List ℕ) → Option (List ℕ) → PathsVerdict
+    → Type 0
+IsAskedAndFound standard trees stream layers before now verdict =
+    (ids : List (List ℕ)) × Appends before now (asking_lines ids) × MayFindPaths standard trees stream layers verdict
 
 -- how many filters were computed, if some layer has filters
 abbrev pub computed_of : FiltersOfGraph → Option ℕ

@@ -9,6 +9,8 @@
 mod quoted;
 mod refusal;
 mod run;
+mod standard;
 
 pub use refusal::PathsRefusal;
 pub use run::run_paths;
+pub use standard::Standard;

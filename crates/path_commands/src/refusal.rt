@@ -58,6 +58,7 @@ impl fmt::Display for FaultDetails<'_> {
                 let path = Quoted(path);
                 write!(f, " path {path}")
             }
+            PathsFault::Differs => f.write_str(""),
             PathsFault::Other => f.write_str(""),
         }
     }
@@ -74,7 +75,8 @@ fn fault_number(fault: &PathsFault) -> u8
         PathsFault::TooDeep => 9,
         PathsFault::TooMuch => 10,
         PathsFault::Lacks(_) => 11,
-        PathsFault::Other => 12,
+        PathsFault::Differs => 12,
+        PathsFault::Other => 13,
     }
 }
 

@@ -90,7 +90,7 @@ fn sealed(rt: &impl Abort, alloc: Global, kind: Kind, file: Vec<u8>) -> Vec<u8> 
 }
 
 /// The file of the history with another bit.
-fn with_other_bit(rt: &impl Abort, alloc: Global, kind: Kind, at: usize, bit: u8) -> Vec<u8> {
+pub fn with_other_bit(rt: &impl Abort, alloc: Global, kind: Kind, at: usize, bit: u8) -> Vec<u8> {
     let mut file = file_of(rt, alloc, kind);
     assert!(rt; at < file.len() && bit < 8);
     file[at] ^= 1 << bit;
@@ -162,7 +162,7 @@ fn where_a_bit_is_cleared_a_path_is_lacked(rt: HostRuntime) {
 }
 
 /// The first bit that is not set in the filter of the commit at position 1.
-const CLEAR: (usize, u8) = (1641, 0);
+pub const CLEAR: (usize, u8) = (1641, 0);
 
 #[test]
 fn a_filter_with_more_bits_is_right_and_another_one(rt: HostRuntime) {

@@ -2,8 +2,9 @@
 
 What an answer has to be is made from the bytes of the trees, by a plain walk of all leaves, and from the bits of the filters. Where
 filters are as Git writes them, all are right; where one bit is cleared, or filters are exchanged, the first path that is lacked is
-told. Also over a worktree that has Git leave a submodule out; over trees that are missing, damaged, deep or many; and over streams
-that are not what Git writes.
+told. With `--exact` each has to be the one that Git writes: so one more bit is told too, and a byte that has all bits, and filters that
+were made by other numbers. Also over a worktree that has Git leave a submodule out; over trees that are missing, damaged, deep or many;
+and over streams that are not what Git writes.
 """
 
 import hashlib
@@ -24,8 +25,11 @@ SETTINGS = (1, 7, 10)
 MOST_NAMES, MOST_TREES = 2048, 2**22
 """A path has at most so many names, and for a commit at most so many trees are read, if it is not said how many."""
 
-CLEARED, EXCHANGED = 150, 40
-"""So many times one bit is cleared, and so many times two filters are exchanged."""
+CLEARED, ADDED, EXCHANGED = 150, 50, 40
+"""So many times one bit is cleared, so many times one is set, or all, and so many times two filters are exchanged."""
+
+EXACT = "--exact"
+"""The word by which each filter has to be the one that Git writes."""
 
 DIRECTORY = 0o40000
 """The mode of a directory."""
@@ -47,11 +51,13 @@ def check_kind(histories, results, new):
     title = "%s, paths, %%s" % repository.object_format
     check_right(results, title, held)
     check_cleared(results, title, held)
+    check_other(results, title, held)
     check_limits(results, title, held)
     check_streams(results, title, held)
     check_ignored(histories, results, title, new("ignored"))
     check_contents(histories, results, title, new("contents"))
     check_deep(histories, results, title, new("deep"))
+    check_many(histories, results, title, new("many"))
 
 
 class Entry(NamedTuple):
@@ -110,6 +116,31 @@ class Held:
                     return path[:end]
         return None
 
+    def gone_through(self, old, new, before=b""):
+        """The trees of a pair that are read, and the paths that are changed, as they come: None for a path, and an id for a tree."""
+        yield from (tree for tree in (old, new) if tree)
+        old_keys, new_keys = ({key_of(name, entry): (name, entry) for name, entry in self.trees[tree]} if tree else {} for tree in (old, new))
+        for key in sorted({*old_keys, *new_keys}):
+            one, other = old_keys.get(key, (None, None)), new_keys.get(key, (None, None))
+            if one == other:
+                continue
+            if key.endswith(b"/"):
+                yield from self.gone_through(one[1] and one[1].id, other[1] and other[1].id, before + key)
+            else:
+                yield None
+
+    def written(self, commit, settings, most):
+        """The filter that Git writes for a commit, by the numbers that filters begin with, or None where more trees have to be read than so
+        many; and whether just the trees are read that the commit needs: where more paths are changed than have a filter, some are left."""
+        paths = trees = 0
+        for tree in self.gone_through(*self.pair(commit)):
+            trees, paths = trees + (tree is not None), paths + (tree is None)
+            if trees > most:
+                return None, False
+            if paths > filters.MOST_PATHS:
+                return b"\xff", False
+        return filters.made(self.changed(commit), settings, settings[0] == 1), True
+
     def reads(self, layer):
         """The commits for which trees are needed, by their positions, each with its filter."""
         stored, settings = filters.stored(layer, self.kind)
@@ -131,13 +162,38 @@ class Held:
         word = "none" if settings is None else "commits %d" % sum(map(bool, stored.values()))
         return 0, "filters " + word, asked
 
+    def expected_exactly(self, layer, most=MOST_TREES):
+        """The same where each filter has to be the one that Git writes; and the trees that have to be asked for."""
+        stored, settings = filters.stored(layer, self.kind)
+        may, must = set(), set()
+        for place, (commit, own) in enumerate(stored.items()):
+            if not own:
+                continue
+            made, are_all_read = self.written(commit, settings, most)
+            needed = self.needed(*self.pair(commit))
+            may.update(needed)
+            if made != own:
+                return 1, "refused paths %d position %d" % (10 if made is None else 12, place), may, must
+            must.update(needed if are_all_read else ())
+        word = "none" if settings is None else "commits %d" % sum(map(bool, stored.values()))
+        return 0, "filters " + word, may, must
+
     def run(self, layer, *options):
         """The answer about a layer, and the trees that were asked for; Git hands them over."""
         return ring(self.histories, self.repository, layer, *options)
 
     def judged(self, layer, *options, most=MOST_TREES):
         """A run over a layer, and what judges its answer."""
-        return (lambda: self.run(layer, *options)), (lambda told: self.complaint(layer, told, most))
+        judge_of = self.complaint_of_exact if EXACT in options else self.complaint
+        return (lambda: self.run(layer, *options)), (lambda told: judge_of(layer, told, most))
+
+    def complaint_of_exact(self, layer, told, most):
+        """What is wrong with an answer where each filter has to be the one that Git writes."""
+        answer, asked = told
+        status, line, may, must = self.expected_exactly(layer, most)
+        if len(asked) != len(set(asked)) or not must <= set(asked) <= may:
+            return "%d trees are asked for, and %d up to %d are needed" % (len(asked), len(must), len(may))
+        return judge.exactly(status, line + "\n", "", answer)
 
     def complaint(self, layer, told, most):
         """What is wrong with an answer."""
@@ -201,6 +257,11 @@ def entries_of(tree, size):
         tree = rest[size:]
 
 
+def key_of(name, entry):
+    """By what an entry stands in its tree."""
+    return name + b"/" if entry.mode == DIRECTORY else name
+
+
 def directories(tree):
     """The directories of a tree, by their names, each with its id."""
     return [(name, entry.id) for name, entry in tree if entry.mode == DIRECTORY]
@@ -209,8 +270,12 @@ def directories(tree):
 def check_right(results, title, held):
     """Filters as Git writes them, in one file and in a chain, and none."""
     repository = held.repository
-    plain = repository.new_graph()
-    check_runs(results, title % "filters of Git", [held.judged(held.layer), held.judged(plain), held.judged(held.layer, "--trees", str(2**32 - 1))])
+    plain, all_trees = repository.new_graph(), ("--trees", str(2**32 - 1))
+    runs = [held.judged(layer, *exact) for layer in (held.layer, plain) for exact in ((), (EXACT,))]
+    runs += [held.judged(held.layer, *all_trees), held.judged(held.layer, EXACT, *all_trees)]
+    check_runs(results, title % "filters of Git", runs)
+    told = held.expected_exactly(held.layer)[1]
+    results.check(title % "they are those that were calculated", None if told.startswith("filters ") else told)
     tips, layers = sorted(held.commits)[:: max(1, len(held.commits) // 3)], []
     os.remove(repository.graph_path())
     for number in range(1, len(tips) + 1):
@@ -218,9 +283,11 @@ def check_right(results, title, held):
     repository.write_graph("--split=no-merge", "--changed-paths")
     layers = [content for _, content in repository.chain()]
     computed = sum(bool(own) for layer in layers for own in filters.stored(layer, held.kind)[0].values())
-    answer, asked = newer_checks.ring(held.histories, repository, ("paths",), repository.info_path(), [])
-    wrong = judge.exactly(0, "filters commits %d\n" % computed, "", answer)
-    results.check(title % "a chain of %d layers" % len(layers), wrong or (None if len(asked) == len(set(asked)) else "a tree is asked for twice"))
+    for words in (("paths",), ("paths", EXACT)):
+        answer, asked = newer_checks.ring(held.histories, repository, words, repository.info_path(), [])
+        wrong = judge.exactly(0, "filters commits %d\n" % computed, "", answer)
+        twice = None if len(asked) == len(set(asked)) else "a tree is asked for twice"
+        results.check(title % "%s of a chain of %d layers" % (" ".join(words), len(layers)), wrong or twice)
 
 
 def check_cleared(results, title, held):
@@ -231,23 +298,67 @@ def check_cleared(results, title, held):
     for place, bit in chance.sample(bits, min(CLEARED, len(bits))):
         own = bytearray(stored[place])
         own[bit // 8] ^= 1 << bit % 8
-        runs.append(held.judged(held.filters_changed(lambda all, place=place, own=bytes(own): [*all[:place], own, *all[place + 1 :]])))
+        layer = held.filters_changed(lambda all, place=place, own=bytes(own): [*all[:place], own, *all[place + 1 :]])
+        runs += [held.judged(layer), held.judged(layer, EXACT)]
     check_runs(results, title % "a bit of a filter is cleared", runs)
     runs = []
     for one, other in [chance.sample(range(len(stored)), 2) for _ in range(EXCHANGED)]:
         order = list(range(len(stored)))
         order[one], order[other] = other, one
-        runs.append(held.judged(held.filters_changed(lambda all, order=order: [all[place] for place in order])))
-    runs.append(held.judged(held.filters_changed(lambda all: [own and b"\0" * len(own) for own in all])))
-    runs.append(held.judged(held.filters_changed(lambda all: [b"" for _ in all])))
-    runs.append(held.judged(held.filters_changed(lambda all: [b"\xff" for _ in all])))
+        layer = held.filters_changed(lambda all, order=order: [all[place] for place in order])
+        runs += [held.judged(layer), held.judged(layer, EXACT)]
+    for change in (lambda own: own and b"\0" * len(own), lambda own: b"", lambda own: b"\xff"):
+        layer = held.filters_changed(lambda all, change=change: list(map(change, all)))
+        runs += [held.judged(layer), held.judged(layer, EXACT)]
     check_runs(results, title % "filters are exchanged, empty, or have no bits or all", runs)
+
+
+def check_other(results, title, held):
+    """Filters that lack nothing, and are not those that Git writes: with one more bit, with all bits in one byte or in all, with one more
+    byte, or made by other numbers than the graph says; and those that are made by the numbers that it says."""
+    chance, (stored, settings) = random.Random(82), filters.stored(held.layer, held.kind)
+    own, runs = list(stored.values()), []
+    bits = [(place, bit) for place, one in enumerate(own) for bit in range(8 * len(one)) if not one[bit // 8] >> bit % 8 & 1]
+    others = [(place, set_bit(own[place], bit)) for place, bit in bits]
+    full = [(place, b"\xff" * size) for place, one in enumerate(own) for size in {1, len(one), len(one) + 1} if b"\xff" * size not in (b"", one)]
+    complaints = []
+    for place, other in chance.sample(others, min(ADDED, len(others))) + chance.sample(full, min(ADDED, len(full))):
+        layer = held.filters_changed(lambda all, place=place, other=other: [*all[:place], other, *all[place + 1 :]])
+        runs += [held.judged(layer), held.judged(layer, EXACT)]
+        complaints.append(other_alone(held, layer, place))
+    results.check(title % "filters of more bits are right, and told as other ones", next(filter(None, complaints), None))
+    check_runs(results, title % "filters of more bits", runs)
+    runs = []
+    for numbers in ((1, 7, 11), (1, 6, 10), (2, 7, 10), (1, 1, 1), (2, 9, 23)):
+        kept = filters.with_filters(held.layer, held.kind, own, numbers)
+        runs += [held.judged(kept, EXACT)] + [held.judged(kept)] * (list(numbers[:2]) == list(settings[:2]))
+        made = [filters.made(held.changed(commit), numbers, numbers[0] == 1) for commit in stored]
+        layer = filters.with_filters(held.layer, held.kind, made, numbers)
+        runs += [held.judged(layer), held.judged(layer, EXACT)]
+        told = held.expected_exactly(layer)[0]
+        results.check(title % "filters by the numbers %r are those of Git" % (numbers,), None if told == 0 else "they are to be refused")
+    check_runs(results, title % "filters by other numbers", runs)
+
+
+def other_alone(held, layer, place):
+    """What is wrong with what is expected of a filter at a place that is right, and another one than Git writes."""
+    told = held.expected(layer)[:2], held.expected_exactly(layer)[:2]
+    right = told[0][0] == 0 and told[1] == (1, "refused paths 12 position %d" % place)
+    return None if right else "the filter at %d is to be told as %r" % (place, told)
+
+
+def set_bit(own, bit):
+    """A filter with one bit set."""
+    changed = bytearray(own)
+    changed[bit // 8] |= 1 << bit % 8
+    return bytes(changed)
 
 
 def check_limits(results, title, held):
     """So many trees are enough for each commit, and fewer are not."""
     most = max(len(held.needed(*held.pair(commit))) for _, commit, _ in held.reads(held.layer)[1])
-    runs = [held.judged(held.layer, "--trees", str(number), most=number) for number in (0, 1, 2, most - 1, most, most + 1)]
+    numbers = (0, 1, 2, most - 1, most, most + 1)
+    runs = [held.judged(held.layer, *exact, "--trees", str(number), most=number) for exact in ((), (EXACT,)) for number in numbers]
     check_runs(results, title % "so many trees at most", runs)
 
 
@@ -315,8 +426,7 @@ def check_ignored(histories, results, title, repository):
     ignoring = read_bytes(repository.graph_path())
     hidden = len(repository.git("log", "--format=%H", tip, "--", "s").split()) < 2
     held = Held(histories, repository)
-    run, judged = held.judged(ignoring)
-    results.check(title % "a submodule that Git ignores", judged(run()))
+    check_runs(results, title % "a submodule that Git ignores", [held.judged(ignoring), held.judged(ignoring, EXACT)])
     lacks = held.expected(ignoring)[1]
     complaint = "Git lists %s, and it is to be told %r" % ("too few commits" if hidden else "both commits", lacks)
     results.check(title % "what Git leaves out is told", None if hidden == lacks.endswith('path "s"') else complaint)
@@ -399,6 +509,22 @@ def check_deep(histories, results, title, repository):
             runs.append(told_of_root(histories, repository, tree, made, 1, "refused paths 9 position 0"))
             runs.append(told_of_root(histories, repository, tree, b"\0", 1, "refused paths 9 position 0"))
     check_runs(results, title % "paths of many names", runs)
+
+
+def check_many(histories, results, title, repository):
+    """Commits that change some 512 paths: with files alone, with files in one directory, and with a directory for each file."""
+    steps = []
+    for count in (255, 256, 257, 509, 510, 511, 512, 513, 514, 600):
+        for form in (b"%d", b"d/%d", b"d%d/f"):
+            steps.append(Step([(FILE, form % number, b"1") for number in range(count)], (), ()))
+            steps.append(Step([], tuple(form % number for number in range(count)), (len(steps) - 1,)))
+    import_commits(repository, steps)
+    held = Held(histories, repository)
+    check_runs(results, title % "some 512 paths", [held.judged(held.layer), held.judged(held.layer, EXACT)])
+    told = held.expected_exactly(held.layer)[1]
+    results.check(title % "the filters of some 512 paths are those that were calculated", None if told.startswith("filters ") else told)
+    all_bits = held.filters_changed(lambda all: [b"\xff" for _ in all])
+    check_runs(results, title % "all bits in the place of some 512 paths", [held.judged(all_bits), held.judged(all_bits, EXACT)])
 
 
 def filters_of(path):

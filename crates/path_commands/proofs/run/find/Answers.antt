@@ -10,15 +10,15 @@ pub returns-in-Err : goal.returns-in-Err
 unfolding MayRefuseFilters
 returns-in-Err g c = ([], Appends-nil (g.W.Write.contents c.args.writer.now), c.in-Err.ensures.refusal)
 
-pub returns-in-Ok-check_by_requests : goal.returns-in-Ok-check_by_requests
-returns-in-Ok-check_by_requests g c =
+pub returns-in-Ok-check_against : goal.returns-in-Ok-check_against
+returns-in-Ok-check_against g c =
     let layers = c.args.graph.now in
     let stream : Option (List ℕ) = g.R.Read.remaining c.args.reader.now in
     let all : FiltersOfGraph = c.in-Ok.filters in
     let same = filters_same all layers c.in-Ok.ensures.settings c.in-Ok.ensures.filters in
-    let lines = c.in-Ok-check_by_requests.ensures.written (λ e. cc) in (
+    let lines = c.in-Ok-check_against.ensures.written (λ e. cc) in (
       lines.0,
       lines.1,
-      right_told c.args.trees stream layers all c.computed.result same c.in-Ok.ensures.accepted c.computed.ensures
-          c.in-Ok-check_by_requests.ensures.right,
+      right_told c.args.standard c.args.trees stream layers all c.computed.result same c.in-Ok.ensures.accepted c.computed.ensures
+          c.in-Ok-check_against.ensures.met,
     )

@@ -20,15 +20,16 @@ returns-in-Ok-clause-written g c =
     let old : Option (List ℕ) = g.W.Write.contents c.args.writer.now in
     let new : Option (List ℕ) = g.W.Write.contents c.check_in-in-Ok.new.writer in
     let layers = c.in-Ok.graph.layers in
-    graph_told result (most_trees c.args.trees) before after old new layers
+    graph_told result c.args.standard (most_trees c.args.trees) before after old new layers
     (MayOpenIn g.T.Folder c.args.folder.now c.open_checked.new.folder c.args.path.now) c.in-Ok.ensures.opened
     (subst
     (λ (trees : ℕ). IfOk result
-    (WritesAnswer paths_text paths_status (λ told. Sound layers × MayFindPaths trees before layers told.verdict) old new))
+    (WritesAnswer paths_text paths_status
+    (λ told. Sound layers × MayFindPaths c.args.standard trees before layers told.verdict) old new))
     c.most_trees-trees.ensures
     (subst
     (λ (some : List Layer). IfOk result (WritesAnswer paths_text paths_status
-    (λ told. Sound some × MayFindPaths c.most_trees-trees.result before some told.verdict) old new))
+    (λ told. Sound some × MayFindPaths c.args.standard c.most_trees-trees.result before some told.verdict) old new))
     (ap (λ (v : CheckedLayers). v.layers) c.as_checked.ensures.same) c.check_in-in-Ok.ensures))
 
 pub returns-in-Err-clause-written : goal.returns-in-Err-clause-written
@@ -36,6 +37,6 @@ returns-in-Err-clause-written g c =
     let input : Option (List ℕ) = g.R.Read.remaining c.args.reader.now in
     let old : Option (List ℕ) = g.W.Write.contents c.args.writer.now in
     let new : Option (List ℕ) = g.W.Write.contents c.tell_at_last.new.writer in
-    refusal_told c.tell_at_last.result (most_trees c.args.trees) input old new
+    refusal_told c.tell_at_last.result c.args.standard (most_trees c.args.trees) input old new
     (MayOpenIn g.T.Folder c.args.folder.now c.open_checked.new.folder c.args.path.now) c.in-Err.refusal
     (Err (Common (Graph c.in-Err.refusal))) c.in-Err.ensures.refused refl c.tell_at_last.ensures

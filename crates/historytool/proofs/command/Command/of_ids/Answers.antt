@@ -11,6 +11,6 @@ returns-in-ask-clause-asked c help version =
 
 pub returns-in-paths-clause-asked : goal.returns-in-paths-clause-asked
 returns-in-paths-clause-asked c help version =
-    subst (λ (name : List ℕ). IfSome c.limited_paths.result (AskAfterName help version
+    subst (λ (name : List ℕ). IfSome c.paths_with.result (AskAfterName help version
     (name ∷ c.args.path.now ∷ c.args.first.now ∷ map string_bytes c.args.others.now)))
-    (sym c.in-paths.is) (c.limited_paths.ensures.asked help version)
+    (sym c.in-paths.is) (c.paths_with.ensures.asked help version)
