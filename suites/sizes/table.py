@@ -147,9 +147,9 @@ def checked_pairs(shape, exact):
 
 
 def asked_trees(shape, exact):
-    """The commits whose root trees are asked for, in order: each once, and where there are no trees the first alone."""
-    asked = list(dict.fromkeys(number for pair in checked_pairs(shape, exact) for number in pair))
-    return asked if shape.plan.trees else asked[:1]
+    """The commits whose root trees are asked for, in order: each once, and where there are no trees those of the first pair alone."""
+    pairs = checked_pairs(shape, exact)
+    return list(dict.fromkeys(number for pair in (pairs if shape.plan.trees else pairs[:1]) for number in pair))
 
 
 def trees(shape, exact=False):

@@ -3,6 +3,7 @@
 Git writes; and over a graph that is wrong, or changes meanwhile.
 """
 
+import contextlib
 import hashlib
 import os
 import random
@@ -152,9 +153,12 @@ def ring(histories, repository, begin, path, ids, when_asked=None):
         if when_asked and not requests:
             when_asked()
         requests.append(line.decode().rstrip("\n"))
-        git.stdin.write(line)
-        git.stdin.flush()
-    git.stdin.close()
+        # Where an answer was told already, Git may have ended, since nobody reads what was asked for ahead.
+        with contextlib.suppress(BrokenPipeError):
+            git.stdin.write(line)
+            git.stdin.flush()
+    with contextlib.suppress(BrokenPipeError):
+        git.stdin.close()
     out, err = tool.stdout.read(), tool.stderr.read()
     status = tool.wait()
     guard.cancel()
