@@ -161,7 +161,7 @@ fn operands(command: &Command) -> String {
         "optional" => " [PATH]",
         "trusted" => " [--unchecked] PATH",
         "newer" => " [--unchecked] [--newer] PATH",
-        "limited" => " [--trees N] PATH",
+        "limited" => " [--exact] [--trees N] PATH",
         _ => "",
     };
     match command.takes {

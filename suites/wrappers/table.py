@@ -53,7 +53,7 @@ def usage(program):
     parts = []
     for command in commands(program):
         words = {"path": "PATH", "optional": "[PATH]", "trusted": "[--unchecked] PATH", "newer": "[--unchecked] [--newer] PATH"}
-        words["limited"] = "[--trees N] PATH"
+        words["limited"] = "[--exact] [--trees N] PATH"
         path = words.get(command.reads, "").split()
         more = ".." if command.takes_more() else " [FROM TO]" if command.takes_range() else ""
         parts.append(" ".join([command.word, *path, *["HEX"] * command.least()]) + more)
