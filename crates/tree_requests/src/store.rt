@@ -15,8 +15,9 @@ use std::collections::BTreeMap;
 /// How many bytes of trees are kept at most.
 const MOST_BYTES: usize = 64 * 1024 * 1024;
 
-/// How many trees are kept at most.
-const MOST_TREES: usize = 65_536;
+/// How many trees are kept at most. With their ids and places they take some 40 MB beside their
+/// bytes.
+const MOST_TREES: usize = 262_144;
 
 /// Where a tree stands among the bytes of all.
 #[derive(Clone, Copy)]
