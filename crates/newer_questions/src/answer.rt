@@ -12,7 +12,7 @@ ghost use Rattle.newer_questions.specs.AskedOnTop.{AreAskedOnTop};
 ghost use Rattle.newer_questions.specs.QuestionsOnTop.{MayAnswerOnTop, MayComeOnTop};
 
 use crate::ids::ids_of;
-use crate::search::search;
+use crate::search::search_on_top;
 use answer_lines::reply::Reply;
 use commit_requests::{CompleteError, complete};
 use gix_hash_core::{Kind, ObjectId};
@@ -111,7 +111,7 @@ fn find_over<S: Base, R: Read, W: Write>(
         return Err(CompleteError::OutOfMemory);
     };
     match complete(alloc, newer, requests, &ids, reader, writer) {
-        Ok(()) => match search(alloc, newer, ranks, question) {
+        Ok(()) => match search_on_top(alloc, newer, ranks, question) {
             Ok(reply) => Ok(reply),
             Err(error) => Err(CompleteError::Source(error)),
         },

@@ -13,13 +13,14 @@ use newer_commits::{Base, Newer, RanksOnTop};
 use question_lines::question::Question;
 use std::alloc::Global;
 
-/// What is answered to a question that asks for a search. Merge bases are searched for by the ranks
-/// that are given, and without some by generation numbers.
+/// What is answered to a question that asks for a search, over a base and newer commits: where an
+/// id is that of no commit there, its number. Merge bases are searched for by the ranks that are
+/// given, and without some by generation numbers.
 ///
 /// # Errors
 ///
 /// A read of the base failed, or an allocation.
-pub(crate) fn search<S: Base>(
+pub fn search_on_top<S: Base>(
     alloc: Global,
     newer: &mut Newer<S>,
     ranks: Option<RanksOnTop<'_>>,
@@ -27,6 +28,8 @@ pub(crate) fn search<S: Base>(
 ) -> Result<Reply<Vec<ObjectId>>, S::Error>
     requires { IsSearched question.now }
     ensures known { S.known newer.new.base ≡ S.known newer.old.base }
+    ensures kind { newer.new.kind ≡ newer.old.kind }
+    ensures commits { newer.new.commits ≡ newer.old.commits }
     ensures found { IfOk result (IsReplyOnTop (S.says newer.new.base)
         (S.finds (S.facts newer.old.base)) (S.has_id (S.facts newer.old.base)) ranks.entry
         newer.old.commits question.now) }

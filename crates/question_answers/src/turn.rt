@@ -1,9 +1,10 @@
 //! What is written around the answers to questions.
 
-ghost use Rattle.std.specs.Prelude.{◌≡◌, [], true, Ok, Err, IfOk, OnOk};
+ghost use Rattle.std.specs.Prelude.{◌≡◌, [], Ok, Err, IfOk, OnOk};
 ghost use Rattle.std.specs.Io.KnownBytes.{Appends};
 ghost use Rattle.graph_commands.specs.Buffer.{with_buffer};
 ghost use Rattle.graph_commands.specs.Text.{◌⧺◌, newline};
+ghost use Rattle.question_answers.specs.AnsweredLines.{refused_line};
 ghost use Rattle.question_answers.specs.Taken.{opened_line, end_status, end_text};
 
 use graph_commands::buffer::Buffer;
@@ -36,18 +37,29 @@ pub fn write_refused<W: Write>(writer: &mut W, refusal: &Refusal) -> Result<(), 
     Ok(())
 }
 
-/// Adds an empty line to an answer, writes the whole and flushes it. It answers that this was done.
-/// `WriteFailed` comes where the writer fails.
-pub fn finish<W: Write>(buffer: &mut Buffer, writer: &mut W) -> Result<bool, WriteFailed>
+/// Adds an empty line to an answer, writes the whole and flushes it. `WriteFailed` comes where the
+/// writer fails.
+pub fn finish<W: Write>(buffer: &mut Buffer, writer: &mut W) -> Result<(), WriteFailed>
     ensures written { OnOk result (Appends (with_buffer (W.contents writer.old) buffer.old)
         (W.contents writer.new) newline) }
     ensures buffer { OnOk result (buffer.new ≡ []) }
-    ensures told { IfOk result (λ told. told ≡ true) }
 {
     buffer.push_byte(writer, b'\n')?;
     buffer.write_out(writer)?;
     writer.flush()?;
-    Ok(true)
+    Ok(())
+}
+
+/// Writes that a line asks nothing, and an empty line, and flushes them. `WriteFailed` comes where
+/// the writer fails.
+pub fn refuse_question<W: Write>(buffer: &mut Buffer, writer: &mut W) -> Result<(), WriteFailed>
+    requires { buffer.old ≡ [] }
+    ensures written { OnOk result (Appends (W.contents writer.old) (W.contents writer.new)
+        (refused_line ⧺ newline)) }
+    ensures buffer { OnOk result (buffer.new ≡ []) }
+{
+    buffer.push_text(writer, "refused question\n")?;
+    finish(buffer, writer)
 }
 
 /// Writes why no further line was read, if a read failed, and answers the exit status.

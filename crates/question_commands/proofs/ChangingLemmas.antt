@@ -28,12 +28,12 @@ turns_once_more makes left fewer turns later next turn tree =
 pub reloads_among : (makes : ℕ → Option Tree → Option Tree) (first : Option Tree) (gives : List ℕ → List ℕ → Type 0)
     (path : List ℕ) (tree : Option Tree) (before after : State) (told : List ℕ) (checked : ℕ)
     → tree ≡ tree_after makes first after.reloads → after.reloads ≡ before.reloads + 1
-    → OpensAnew (MayOpenAsRead tree gives path before.failures after.failures) before.layers told checked after.layers
-    → Reloads (MayOpenAmong makes first gives path) before told checked after
+    → OpensAnew (MayOpenAsRead tree gives path before.failures after.failures) before.layers before.newer told checked
+    after.layers after.newer → Reloads (MayOpenAmong makes first gives path) before told checked after
 reloads_among makes first gives path tree before after told checked is counted opens = (
   counted,
-  subst (λ (t : Option Tree). OpensAnew (MayOpenAsRead t gives path before.failures after.failures) before.layers told checked
-      after.layers) is opens,
+  subst (λ (t : Option Tree). OpensAnew (MayOpenAsRead t gives path before.failures after.failures) before.layers before.newer
+      told checked after.layers after.newer) is opens,
 )
 
 -- where nobody changes what stands, it stays

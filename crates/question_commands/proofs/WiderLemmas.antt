@@ -8,7 +8,7 @@ use Rattle.graph_commands.specs.declared.refusal.Refusal.TheVariants as refusal
 use Rattle.graph_layer.specs.declared.opening.error.OpenError.{OpenError}
 use Rattle.history_commands.specs.Check.{MayRefuseToStart}
 use Rattle.question_answers.specs.Taken.{MayTake}
-use Rattle.question_commands.specs.Asking.{AreTurns, MayAsk, MayTurn, Reloads, Session, State, Turn}
+use Rattle.question_commands.specs.Asking.{AreTurns, MayAsk, MayTurn, Reloads, Session, State, Turn, first_state}
 use Rattle.question_commands.specs.ChangingTrees.{Openings}
 
 pub refuses_wider : (P Q : Result (List Layer) OpenError → Type 0)
@@ -35,11 +35,13 @@ module _ (P Q : Openings)
       let opens = of.1 in
       let may = may_take_wider (P after.reloads before.failures after.failures) (Q after.reloads before.failures after.failures)
       (wider after.reloads before.failures after.failures) opens.0 opens.1 in
-      (of.0, (opens.0, may, opens.2, opens.3, opens.4))
+      (of.0, (opens.0, may, opens.2, opens.3, opens.4, opens.5))
 
   turn_wider : (turn : Turn) → MayTurn P turn → MayTurn Q turn
   turn_wider turn (inl still) = inl still
-  turn_wider turn (inr asks) = inr (asks.0, reloads_wider turn.before turn.after turn.told turn.checked asks.1)
+  turn_wider turn (inr (inl asks)) =
+      inr (inl (asks.0, reloads_wider turn.before turn.after turn.told turn.checked asks.1, asks.2))
+  turn_wider turn (inr (inr takes)) = inr (inr takes)
 
   turns_wider : (turns : List Turn) → AllByRecursion (MayTurn P) turns → AllByRecursion (MayTurn Q) turns
   turns_wider [] all = tt
@@ -50,7 +52,7 @@ module _ (P Q : Openings)
       → MayAsk P old new input unread answer → MayAsk Q old new input unread answer
   asks_wider old new input unread (Ok session) may =
       let takes = may_take_wider (P 0 old may.0) (Q 0 old may.0) (wider 0 old may.0) (Ok session.opened) may.2 in
-      let turns : AreTurns Q (record { layers = session.opened; failures = may.0; reloads = 0 }) may.1 session.turns = record {
+      let turns : AreTurns Q (first_state session.opened may.0) may.1 session.turns = record {
         allowed = turns_wider session.turns may.3.allowed;
         joined = may.3.joined;
       } in

@@ -1,6 +1,9 @@
 pub mod TakenAnew
 pub mod ReadOpening
 pub mod ChangingTrees
+pub mod NewerCommits
+pub mod KeptOver
 pub mod Asking
 pub mod Ending
 pub mod Proceeding
+pub mod StandingGraphs

@@ -6,5 +6,7 @@
 #![tactic(auto)]
 
 pub mod asking;
+mod kept;
+mod newer;
 pub mod others;
 pub mod taking;

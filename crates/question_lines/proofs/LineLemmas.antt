@@ -84,7 +84,11 @@ leaves_fed (Some bytes) (Some next) taken text ahead left consumed none more is 
     consumed ∙ ap (λ (l : List ℕ). taken ++ (l ++ next)) is ∙ ap (λ (l : List ℕ). taken ++ l) (append_assoc text (10 ∷ left) next)
     ∙ sym (append_assoc taken text (10 ∷ (left ++ next))) in
     let apart : HasNone 10 (taken ++ text) = All-append (λ (b : ℕ). (b == 10) ≡ false) taken text none more in (
-      ((taken ++ text) ++ 10 ∷ [], whole ∙ sym (append_assoc (taken ++ text) (10 ∷ []) (left ++ next))),
+      (
+        (taken ++ text) ++ 10 ∷ [],
+        whole ∙ sym (append_assoc (taken ++ text) (10 ∷ []) (left ++ next)),
+        inr (inl (taken ++ text, refl)),
+      ),
       ap lines whole ∙ lines_feed (taken ++ text) (left ++ next) apart,
     )
 
@@ -105,7 +109,7 @@ leaves_last None known taken consumed end none some = tt
 leaves_last (Some bytes) None taken consumed end none some = absurd consumed
 leaves_last (Some bytes) (Some next) taken consumed end none some =
     let whole : bytes ≡ taken = consumed ∙ ap (λ (l : List ℕ). taken ++ l) end ∙ append-nil taken in (
-      (taken, consumed),
+      (taken, consumed, inr (inr end)),
       ap lines whole ∙ lines_last taken none some ∙ ap (λ (l : List ℕ). taken ∷ lines l) (sym end),
     )
 
@@ -221,3 +225,35 @@ on_error (Err error) holds = holds
 pub if_error : {T E : Type 0} {P : E → Type 0} (result : Result T E) → ((error : E) → P error) → IfErr result P
 if_error (Ok value) all = tt
 if_error (Err error) all = all error
+
+-- so many of the bytes ahead, and those behind them
+pub split_ahead : (piece : List ℕ) (start end count : ℕ) → start ≤ end → count ≤ end - start
+    → slice_range piece start end ≡ take count (slice_range piece start end) ++ slice_range piece (start + count) end
+split_ahead piece start end count order within =
+    let ahead : List ℕ = slice_range piece start end in
+    let parts : count + (end - (start + count)) ≡ end - start = omega arith in
+    let behind : drop count ahead ≡ slice_range piece (start + count) end =
+    ap (λ (n : ℕ). drop count (take n (drop start piece))) (sym parts)
+    ∙ drop-take count (end - (start + count)) (drop start piece)
+    ∙ ap (take (end - (start + count))) (drop-drop count start piece) in
+    sym (take-append-drop count ahead) ∙ ap (λ (l : List ℕ). take count ahead ++ l) behind
+
+-- more bytes were taken of those ahead
+pub takes_past : (before known : Option (List ℕ)) (taken ahead bytes left more : List ℕ)
+    → Consumes before (prepend_known ahead known) taken → ahead ≡ bytes ++ left → more ≡ taken ++ bytes
+    → Consumes before (prepend_known left known) more
+takes_past None known taken ahead bytes left more consumed are is = tt
+takes_past (Some all) None taken ahead bytes left more consumed are is = absurd consumed
+takes_past (Some all) (Some next) taken ahead bytes left more consumed are is =
+    consumed ∙ ap (λ (l : List ℕ). taken ++ (l ++ next)) are
+    ∙ ap (λ (l : List ℕ). taken ++ l) (append_assoc bytes left next) ∙ sym (append_assoc taken bytes (left ++ next))
+    ∙ ap (λ (l : List ℕ). l ++ (left ++ next)) (sym is)
+
+-- no byte is ahead, and others were read
+pub reads_on : (before known last : Option (List ℕ)) (taken ahead left : List ℕ)
+    → Consumes before (prepend_known ahead known) taken → ahead ≡ [] → Keeps known (prepend_known left last)
+    → Consumes before (prepend_known left last) taken
+reads_on before known last taken ahead left consumed none kept =
+    Consumes-kept before known (prepend_known left last) taken
+    (subst (Consumes before known) (ap (λ (l : List ℕ). taken ++ l) none ∙ append-nil taken)
+    (consumes_ahead before known taken ahead consumed)) kept

@@ -19,12 +19,16 @@ pub record LineView : Type 0 where
 abbrev pub IsKeptAs : List ℕ → List ℕ → Type 0
 IsKeptAs line kept = (kept ≡ line) ⊎ ((most_line_bytes < length line) × (most_line_bytes < length kept))
 
--- where the bytes before are known, they begin with this line, and the bytes left are what follows it
+-- bytes that were taken are whole lines: there are none, or a line feed ends them, or nothing is left behind them
+abbrev pub AreWholeLines : List ℕ → List ℕ → Type 0
+AreWholeLines taken left = (taken ≡ []) ⊎ ((text : List ℕ) × (taken ≡ text ++ 10 ∷ [])) ⊎ (left ≡ [])
+
+-- where the bytes before are known, they begin with this line, and the bytes left are what follows its end
 abbrev pub LeavesBehind : List ℕ → Option (List ℕ) → Option (List ℕ) → Type 0
 LeavesBehind line None left = ⊤
 LeavesBehind line (Some bytes) None = ⊥
 LeavesBehind line (Some bytes) (Some left) =
-    ((taken : List ℕ) × (bytes ≡ taken ++ left)) × (lines bytes ≡ line ∷ lines left)
+    ((taken : List ℕ) × (bytes ≡ taken ++ left) × AreWholeLines taken left) × (lines bytes ≡ line ∷ lines left)
 
 -- known bytes begin with a line, which is kept so, and the bytes left are what follows it
 abbrev pub TakesLine : Option (List ℕ) → Option (List ℕ) → List ℕ → Type 0

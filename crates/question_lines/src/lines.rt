@@ -1,8 +1,9 @@
 //! Lines, read one after another.
 
 ghost use Rattle.std.specs.Prelude.{◌≡◌, ◌≢◌, ◌⊎◌, ◌≤◌, ◌++◌, ◌∷◌, [], true, false, length, take};
-ghost use Rattle.std.specs.Prelude.{◌<◌, IfErr, IfOk, IfSome, IsTrue, OnErr, OnOk, List, ℕ};
-ghost use Rattle.std.specs.Io.KnownBytes.{IsAtEnd, Keeps, prepend_known};
+ghost use Rattle.std.specs.Prelude.{◌<◌, ◌+◌, IfErr, IfOk, IfSome, MatchResult, OnErr, OnOk, List};
+ghost use Rattle.std.specs.Prelude.{ℕ};
+ghost use Rattle.std.specs.Io.KnownBytes.{Consumes, IsAtEnd, Keeps, prepend_known};
 ghost use Rattle.std.specs.Str.Lines.{strip_carriage_return};
 ghost use Rattle.question_lines.specs.InputLines.{TakesLine, HasNoLine, BeginLine};
 ghost use Rattle.question_lines.specs.InputLines.{most_kept_bytes};
@@ -100,6 +101,62 @@ impl LineReader {
         Err(ReadError::Device)
     }
 
+    /// Reads that many bytes and the line feed behind them, and answers the bytes. The line is the
+    /// one of before.
+    ///
+    /// # Errors
+    ///
+    /// `Device` where a read failed, the input ends before that, or no line feed stands behind the
+    /// bytes; and `OutOfMemory` where there is no memory for them. The reader is not to be asked
+    /// again.
+    pub fn read_contents<R: Read>(
+        &mut self,
+        alloc: Global,
+        reader: &mut R,
+        size: u64,
+    ) -> Result<Vec<u8>, ReadError>
+        ensures size { IfOk result (λ contents. length contents.items ≡ size) }
+        ensures read { IfOk result (λ contents.
+            Consumes (prepend_known self.old.ahead (R.remaining reader.old))
+            (prepend_known self.new.ahead (R.remaining reader.new)) (contents.items ++ 10 ∷ [])) }
+        ensures error { IfErr result (λ error. error ≢ ReadError.NotOpened) }
+        ensures line { self.new.line ≡ self.old.line }
+    {
+        let mut contents = Vec::new(alloc);
+        for _ in 0..u64::MAX {
+            self.take_past(&mut contents, size)?;
+            if contents.len() as u64 > size {
+                return without_feed(contents);
+            }
+            if !self.read_piece(reader)? {
+                return Err(ReadError::Device);
+            }
+        }
+        Err(ReadError::Device)
+    }
+
+    /// Adds bytes that are there to others, until these are one more than so many.
+    fn take_past(&mut self, contents: &mut Vec<u8>, size: u64) -> Result<(), ReadError>
+        requires { length contents.old.items ≤ size + 1 }
+        ensures taken { OnOk result ((bytes : List ℕ) × (self.old.ahead ≡ bytes ++ self.new.ahead)
+            × (contents.new.items ≡ contents.old.items ++ bytes)) }
+        ensures most { OnOk result (length contents.new.items ≤ size + 1) }
+        ensures all { OnOk result (length contents.new.items ≤ size → self.new.ahead ≡ []) }
+        ensures error { IfErr result (λ error. error ≡ ReadError.OutOfMemory) }
+        ensures line { self.new.line ≡ self.old.line }
+    {
+        let ahead = &self.piece[self.start..self.end];
+        let most = size.saturating_add(1) - contents.len() as u64;
+        let count = most.min(ahead.len() as u64) as usize;
+        match contents.extend_from_slice(&ahead[..count]) {
+            Ok(()) => {
+                self.start += count;
+                Ok(())
+            }
+            Err(_) => Err(ReadError::OutOfMemory),
+        }
+    }
+
     /// Adds the bytes up to the next line feed to the line, and goes past that; or where there is
     /// none, all that are there. It answers whether there was one.
     fn take_to_feed(&mut self) -> Result<bool, ReadError>
@@ -159,6 +216,18 @@ impl LineReader {
             Err(error) if error.kind() == ErrorKind::Interrupted => Ok(true),
             Err(_) => Err(ReadError::Device),
         }
+    }
+}
+
+/// Bytes without the line feed at their end. `Device` comes where there is none.
+fn without_feed(bytes: Vec<u8>) -> Result<Vec<u8>, ReadError>
+    ensures { MatchResult result (λ contents. bytes.items ≡ contents.items ++ 10 ∷ [])
+        (λ error. error ≡ ReadError.Device) }
+{
+    let mut bytes = bytes;
+    match bytes.pop() {
+        Some(b'\n') => Ok(bytes),
+        _ => Err(ReadError::Device),
     }
 }
 

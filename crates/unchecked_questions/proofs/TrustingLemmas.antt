@@ -20,10 +20,11 @@ use Rattle.history_commands.specs.CheckedReplies.{TellsOver}
 use Rattle.history_commands.proofs.AskLemmas.{refused_to_start, replies_over}
 use Rattle.unchecked_commands.specs.OnlyAnswer.{IsReadByParts}
 use Rattle.unchecked_commands.specs.TrustedReplies.{IsReplyByParts}
-use Rattle.question_answers.specs.AnsweredLines.{AddsTold, AreAnswered, AreTold, MayBeTold, Told, told_text}
+use Rattle.question_answers.specs.AnsweredLines.{AddsTold, AreAnswered, AreTold, MayBeTold, ToldLine, refused_line, told_text}
 use Rattle.question_answers.specs.ReadLines.{AreLinesOf, HasRead}
 use Rattle.question_answers.specs.Taken.{Opener, end_status, end_text, opened_line}
 use Rattle.question_answers.proofs.AnsweredLemmas.{answered_one}
+use Rattle.question_lines.specs.CommitLines.{AnnouncesCommit}
 use Rattle.question_lines.specs.Questions.{Asks}
 use Rattle.question_lines.specs.declared.question.Question.{Question}
 use Rattle.question_lines.specs.declared.question.Question.TheVariants.{Reload}
@@ -87,13 +88,21 @@ pub answered_anew : (MayOpen : Opener) (before after : ℕ) (line : List ℕ) (r
     → HasRead read left (line ∷ []) → Asks line Reload → AddsTold (MayTellCount MayOpen before after) old new
     → AreAnswered (MayTellTrusted MayOpen) before after read left old new
 answered_anew MayOpen before after line read left old new reads asks adds =
-    answered_one (MayTellTrusted MayOpen) before after line read left old new reads (adds.0, inr (asks, adds.1), adds.2)
+    answered_one (MayTellTrusted MayOpen) before after line read left old new reads (adds.0, inr (inl (asks, adds.1)), adds.2)
+
+-- a line was refused that announces a commit
+pub answered_refused : (MayOpen : Opener) (failures : ℕ) (line : List ℕ) (size : ℕ) (read left old new : Option (List ℕ))
+    → HasRead read left (line ∷ []) → AnnouncesCommit line size → Appends old new (refused_line ++ newline)
+    → AreAnswered (MayTellTrusted MayOpen) failures failures read left old new
+answered_refused MayOpen failures line size read left old new reads announces written =
+    answered_one (MayTellTrusted MayOpen) failures failures line read left old new reads
+    (refused_line, inr (inr (size, announces, refl, refl)), written)
 
 -- the text of a session was written, and why it ended, if that was
 pub asks_trusted : {E : Type 0} (result : Result ℕ E) (MayOpen : Opener) (before opened after : ℕ)
-    (input unread a b c d : Option (List ℕ)) (commits : ℕ) (turns : List Told) (failed : Option ReadError)
+    (input unread a b c d : Option (List ℕ)) (commits : ℕ) (turns : List ToldLine) (failed : Option ReadError)
     → MayCount MayOpen before opened (Ok commits) → AreTold (MayTellTrusted MayOpen) opened after turns
-    → AreLinesOf input unread (map (λ (turn : Told). turn.line) turns) failed
+    → AreLinesOf input unread (map (λ (turn : ToldLine). turn.line) turns) failed
     → Appends a b (opened_line (Ok commits) ++ newline) → Appends b c (flat_map told_text turns)
     → IfOk result (λ (status : ℕ). Appends c d (end_text failed) × (status ≡ end_status failed))
     → IfOk result (WritesAnswer trusted_text trusted_status (MayAskTrusted MayOpen before after input unread) a d)

@@ -12,9 +12,10 @@ use Rattle.graph_commands.specs.Text.{◌⧺◌, newline}
 use Rattle.graph_commands.specs.declared.refusal.Refusal.{Refusal}
 use Rattle.unchecked_commands.specs.OnlyAnswer.{IsReadByParts}
 use Rattle.unchecked_commands.specs.TrustedReplies.{MayReplyTrusted}
-use Rattle.question_answers.specs.AnsweredLines.{AreTold, MayBeTold, Told, told_text}
+use Rattle.question_answers.specs.AnsweredLines.{AreTold, MayBeTold, ToldLine, refused_line, told_text}
 use Rattle.question_answers.specs.ReadLines.{AreLinesOf}
 use Rattle.question_answers.specs.Taken.{MayTake, Opener, opened_line, end_status, end_text}
+use Rattle.question_lines.specs.CommitLines.{AnnouncesCommit}
 use Rattle.question_lines.specs.Questions.{Asks}
 use Rattle.question_lines.specs.declared.question.Question.{Question}
 use Rattle.question_lines.specs.declared.question.Question.TheVariants.{Reload}
@@ -41,16 +42,17 @@ MayTellCount MayOpen before after told =
     (count : Result ℕ Refusal) × MayCount MayOpen before after count × (told ≡ opened_line count)
 
 -- what may be told for a line: for one that asks for the graph to be opened anew, how many commits it has, or why it is refused;
--- and else the answer
+-- for one that announces a commit, what is told for a line that asks nothing; and else the answer
 abbrev pub MayTellTrusted : Opener → ℕ → ℕ → List ℕ → List ℕ → Type 0
 MayTellTrusted MayOpen before after line told =
     MayBeTold (MayTellAsked MayOpen) before after line told
     ⊎ (Asks line Reload × MayTellCount MayOpen before after told)
+    ⊎ ((size : ℕ) × AnnouncesCommit line size × (told ≡ refused_line) × (after ≡ before))
 
 -- What was asked of a path: how many commits its graph had, the lines, and why they ended, if not with the input.
 pub record TrustedSession : Type 0 where
   pub commits : ℕ
-  pub turns : List Told
+  pub turns : List ToldLine
   pub failed : Option ReadError
 
 -- what may come of `ask --unchecked`, in a call that took the count of failures from old to new, and left so much of the input

@@ -5,7 +5,7 @@ ghost use Rattle.std.specs.Io.KnownBytes.{Appends};
 ghost use Rattle.std.specs.List.{flat_map};
 ghost use Rattle.graph_commands.specs.OpenerAnswer.{MayOpen};
 ghost use Rattle.graph_commands.specs.WrittenAnswer.{WritesAnswer};
-ghost use Rattle.question_answers.specs.AnsweredLines.{AddsTold, AreTold, Told, told_text};
+ghost use Rattle.question_answers.specs.AnsweredLines.{AddsTold, AreTold, ToldLine, told_text};
 ghost use Rattle.question_answers.specs.ReadLines.{AreLinesOf};
 ghost use Rattle.unchecked_questions.specs.KeptGraphs.{IsKeptAt};
 ghost use Rattle.unchecked_questions.specs.Trusting.{MayAskTrusted, MayCount, MayTellCount};
@@ -19,7 +19,7 @@ use graph_commands::refusal::Refusal;
 use graph_commands::run::refuse;
 use graph_folder::folder::{Folder, ReadError};
 use question_answers::answering::{Next, answer_by};
-use question_answers::turn::{end, write_count, write_refused};
+use question_answers::turn::{end, refuse_question, write_count, write_refused};
 use question_lines::lines::LineReader;
 use std::alloc::Global;
 use std::io::{Read, Write};
@@ -76,7 +76,7 @@ fn answer_all<R: Read, T: Folder, W: Write>(
     writer: &mut W,
 ) -> Result<Option<ReadError>, WriteFailed>
     requires { IsKeptAt (T.tree folder.old) asker.old.path.now asker.old.kept }
-    ensures answered { IfOk result (λ failed. (turns : List Told)
+    ensures answered { IfOk result (λ failed. (turns : List ToldLine)
         × AreTold (MayTellTrusted (MayOpen (T.tree folder.old) asker.old.path.now))
         (T.failure_count folder.old) (T.failure_count folder.new) turns
         × AreLinesOf (R.remaining reader.old) (R.remaining reader.new)
@@ -112,7 +112,7 @@ fn answer_lines<R: Read, T: Folder, W: Write>(
     requires lines { lines.old.ahead ≡ [] }
     requires buffer { buffer.old ≡ [] }
     requires kept { IsKeptAt (T.tree folder.old) asker.old.path.now asker.old.kept }
-    ensures answered { IfOk result (λ failed. (turns : List Told)
+    ensures answered { IfOk result (λ failed. (turns : List ToldLine)
         × AreTold (MayTellTrusted (MayOpen (T.tree folder.old) asker.old.path.now))
         (T.failure_count folder.old) (T.failure_count folder.new) turns
         × AreLinesOf (R.remaining reader.old) (R.remaining reader.new)
@@ -126,6 +126,7 @@ fn answer_lines<R: Read, T: Folder, W: Write>(
             Next::End => return Ok(None),
             Next::Failed(error) => return Ok(Some(error)),
             Next::Reload => reload(folder, asker, writer)?,
+            Next::Commit(_) => refuse_question(buffer, writer)?,
         }
     }
     Ok(Some(ReadError::Device))

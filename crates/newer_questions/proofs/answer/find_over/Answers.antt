@@ -16,8 +16,8 @@ returns-in_default-clause-answer g c =
       tt,
     )
 
-pub returns-in-Ok-search-clause-answer : goal.returns-in-Ok-search-clause-answer
-returns-in-Ok-search-clause-answer g c =
+pub returns-in-Ok-search_on_top-clause-answer : goal.returns-in-Ok-search_on_top-clause-answer
+returns-in-Ok-search_on_top-clause-answer g c =
     let old = c.args.newer.now in
     let mid = c.complete.new.newer in
     let done = c.in-Ok-complete.ensures in
@@ -33,9 +33,9 @@ returns-in-Ok-search-clause-answer g c =
         all_on_top old.kind base old.commits mid.commits ids (question_ids asked) requests same c.args.requests.now.ahead known
             _ done.there done.all done.read c.requires.unread,
         subst
-            (λ facts. IsReplyOnTop (g.S.CommitSource.says c.search.new.newer.base) (g.S.Base.finds facts)
-            (g.S.Base.has_id facts) c.args.ranks mid.commits asked c.in-Ok-search.reply)
-            (g.met.S.Base.follow mid.base old.base done.known) c.in-Ok-search.ensures.found,
+            (λ facts. IsReplyOnTop (g.S.CommitSource.says c.search_on_top.new.newer.base) (g.S.Base.finds facts)
+            (g.S.Base.has_id facts) c.args.ranks mid.commits asked c.in-Ok-search_on_top.reply)
+            (g.met.S.Base.follow mid.base old.base done.known) c.in-Ok-search_on_top.ensures.found,
       ),
     )
 

@@ -2,9 +2,10 @@
 use Rattle.std.proofs.Common.{◌≡◌, ◌∙◌, ◌+◌, List, ℕ, Option, ap, arith, refl, subst, sym, zero-add}
 use Rattle.std.specs.Io.KnownBytes.{prepend_known}
 use Rattle.std.proofs.KnownBytes.{prepend_known-nil}
-use Rattle.question_commands.specs.Asking.{State}
+use Rattle.question_commands.specs.Asking.{State, first_state}
 use Rattle.question_commands.specs.ChangingTrees.{MayOpenAmong, Openings, tree_after}
 use Rattle.question_commands.specs.Proceeding.{Proceeds}
+use Rattle.question_commands.specs.StandingGraphs.{state_of}
 use Rattle.question_commands.proofs.AskingLemmas.{answered_to_end, answered_to_failure}
 use Rattle.question_commands.proofs.AskingLemmas.{proceeds_more, proceeds_none, proceeds_over, reloads_line}
 use Rattle.question_commands.proofs.ChangingLemmas.{changed_once_more, reloads_among, turns_once_more}
@@ -16,8 +17,7 @@ loop-init g c =
     let old = g.W.Write.contents c.args.writer.now in
     let makes = g.E.Others.makes c.args.others.now in
     let opens : Openings = MayOpenAmong makes (g.T.Folder.tree c.args.folder.now) g.T.Folder.gives c.args.path.now in
-    let first : State =
-    record { layers = c.args.graph.layers; failures = g.T.Folder.failure_count c.args.folder.now; reloads = 0 } in
+    let first : State = first_state c.args.graph.layers (g.T.Folder.failure_count c.args.folder.now) in
     let same : prepend_known c.args.lines.now.ahead input ≡ input =
     ap (λ (ahead : List ℕ). prepend_known ahead input) c.requires.lines ∙ prepend_known-nil input in
     record {
@@ -41,7 +41,7 @@ loop-preserved g c =
     let opens : Openings = MayOpenAmong makes tree g.T.Folder.gives c.args.path.now in
     let failures = g.T.Folder.failure_count c.loop.folder in
     let before = c.loop.invariant.answered in
-    let standing : State = record { layers = c.loop.graph.layers; failures = failures; reloads = before.1 } in
+    let standing : State = state_of c.loop.standing failures before.1 in
     let now = g.T.Folder.tree c.reload.new.folder in
     let after : State = record {
       layers = c.reload.new.graph.layers;
@@ -91,7 +91,7 @@ returns-in-End-clause-answered g c =
     let opens : Openings = MayOpenAmong (g.E.Others.makes c.args.others.now) tree g.T.Folder.gives c.args.path.now in
     let failures = g.T.Folder.failure_count c.loop.folder in
     let before = c.loop.invariant.answered in
-    let standing : State = record { layers = c.loop.graph.layers; failures = failures; reloads = before.1 } in
+    let standing : State = state_of c.loop.standing failures before.1 in
     let after = g.T.Folder.failure_count c.answer_over.new.folder in
     let over = c.in_ok-next.ensures.answered in
     let turns = proceeds_over opens standing after _ over.0 _ _ over.1 in
@@ -106,7 +106,7 @@ returns-in-Failed-clause-answered g c =
     let opens : Openings = MayOpenAmong (g.E.Others.makes c.args.others.now) tree g.T.Folder.gives c.args.path.now in
     let failures = g.T.Folder.failure_count c.loop.folder in
     let before = c.loop.invariant.answered in
-    let standing : State = record { layers = c.loop.graph.layers; failures = failures; reloads = before.1 } in
+    let standing : State = state_of c.loop.standing failures before.1 in
     let after = g.T.Folder.failure_count c.answer_over.new.folder in
     let over = c.in_ok-next.ensures.answered in
     let turns = proceeds_over opens standing after _ over.0 _ _ over.1 in

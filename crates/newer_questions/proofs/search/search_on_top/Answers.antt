@@ -2,7 +2,7 @@
 use Rattle.std.proofs.Common.{[], ◌∷◌, refl}
 use Rattle.gix_hash_core.specs.Oid.{oid_bytes}
 use Rattle.newer_questions.proofs.ReplyLemmas.{bases_reply, told_reply, walk_reply}
-use Rattle.newer_questions.proofs.search.search.Goals as goal
+use Rattle.newer_questions.proofs.search.search_on_top.Goals as goal
 
 pub returns-in_ok-told-in-IsAncestor-clause-found : goal.returns-in_ok-told-in-IsAncestor-clause-found
 returns-in_ok-told-in-IsAncestor-clause-found g c =
