@@ -3,7 +3,10 @@ use Rattle.std.proofs.Common.{◌≡◌, ℕ, ◌+◌, ◌-◌, ◌<◌, ◌≤�
 use Rattle.std.proofs.Common.{sym, ap}
 use Rattle.std.proofs.Common.{subst, ◌∙◌, arith, zero, suc}
 use Rattle.std.specs.Option.{option_map}
-use Rattle.std.specs.Prelude.{All, Contains, slice_get}
+use Rattle.std.specs.Prelude.{All, Contains, IfOk, IfSome, Result, Ok, Err, slice_get}
+use Rattle.std.specs.Result.{result_ok}
+use Rattle.std.proofs.lemmas.List.{map-append}
+use Rattle.question_commands.specs.KeptOver.{NewerView}
 use Rattle.std.specs.Global.{Global}
 use Rattle.std.specs.declared.alloc.AllocError.{AllocError}
 use Rattle.std.proofs.lemmas.Option.{slice_get_within}
@@ -128,3 +131,36 @@ says_at kind layers contents top i bytes are lt at =
     let commit = item_at top.commits i (omega (arith, lt, are.commits.as_many)) in
     let is = are.commits.each i commit.0 bytes commit.1 at in
     (is.said, is.says)
+
+-- the same, where another count of the same is kept
+pub grown : (kind other : Kind) (layers these : List Layer) (contents more : List (List ℕ)) (bytes : List ℕ)
+    (old new : CommitsOnTop) (at : ℕ) → Sound layers → other ≡ kind → these ≡ layers → more ≡ contents ++ bytes ∷ []
+    → AreNewerOver kind layers contents old → AddsCommit kind (FoundIn layers) old new bytes at
+    → AreNumberedOnTop (history_of these) (nodes_on_top new) → AreNewerOver other these more new
+grown kind other layers these contents more bytes old new at right same_kind same same_contents are adds numbered =
+    let here = subst (λ (l : List Layer). AreNumberedOnTop (history_of l) (nodes_on_top new)) same numbered in
+    subst (λ (k : Kind). AreNewerOver k these more new) (sym same_kind)
+    (subst (λ (l : List Layer). AreNewerOver kind l more new) (sym same)
+    (subst (λ (all : List (List ℕ)). AreNewerOver kind layers all new) (sym same_contents)
+    (added_over kind layers right contents bytes old new at are adds here)))
+
+-- one more in a list of contents
+pub listed_more : (old middle new : List (Vec ℕ Global)) (bytes : Vec ℕ Global) → new ≡ middle ++ bytes ∷ [] → middle ≡ old
+    → map (λ (b : Vec ℕ Global). b.items) new ≡ map (λ (b : Vec ℕ Global). b.items) old ++ bytes.items ∷ []
+listed_more old middle new bytes more same =
+    ap (map (λ (b : Vec ℕ Global). b.items)) (more ∙ ap (λ (l : List (Vec ℕ Global)). l ++ bytes ∷ []) same)
+    ∙ map-append (λ (b : Vec ℕ Global). b.items) old (bytes ∷ [])
+
+-- what is found, if something is
+pub found_some : {E : Type 0} (result : Result (Reply (Vec (List ℕ) Global)) E) (answer : Option (Reply (Vec (List ℕ) Global)))
+    (view : NewerView) (says : Told → Type 0) (asked : Question) → answer ≡ result_ok result → Sound view.layers
+    → says (told_of view.layers)
+    → IfOk result (IsReplyOnTop says (FoundIn view.layers) (λ p id. slice_get (graph_ids view.layers) p ≡ Some id) None view.top
+    asked)
+    → IfSome answer (λ reply. IsReplyOver view.layers view.top asked (listed_reply reply))
+found_some (Ok reply) answer view says asked is right said found =
+    subst (λ (a : Option (Reply (Vec (List ℕ) Global))). IfSome a (λ r. IsReplyOver view.layers view.top asked (listed_reply r)))
+    (sym is) (found_over view.layers right view.top says asked reply said found)
+found_some (Err error) answer view says asked is right said found =
+    subst (λ (a : Option (Reply (Vec (List ℕ) Global))). IfSome a (λ r. IsReplyOver view.layers view.top asked (listed_reply r)))
+    (sym is) tt

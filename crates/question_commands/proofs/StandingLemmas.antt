@@ -6,6 +6,7 @@ use Rattle.std.specs.Prelude.{◌==◌, IfErr, Result, Ok, Err, OnErr, OnOk}
 use Rattle.std.specs.Global.{Global}
 use Rattle.std.specs.declared.alloc.AllocError.{AllocError}
 use Rattle.std.specs.Io.KnownBytes.{Appends}
+use Rattle.std.proofs.KnownBytes.{Appends-trans}
 use Rattle.std.proofs.lemmas.Bool.{eq-eqb, eqb-true}
 use Rattle.std.proofs.lemmas.List.{length-map, nil_from_length}
 use Rattle.gix_hash_core.specs.declared.kind.Kind.{Kind}
@@ -19,7 +20,8 @@ use Rattle.newer_commits.specs.CommitsOnTop.{CommitsOnTop, end_of_top}
 use Rattle.newer_commits.specs.declared.error.AddError.{AddError}
 use Rattle.gix_commitgraph.specs.Graph.{total}
 use Rattle.question_commands.specs.Asking.{anew_text}
-use Rattle.question_commands.specs.KeptOver.{IsView, NewerView}
+use Rattle.question_commands.specs.KeptOver.{IsView, NewerView, StandOver, listed_contents, view_over}
+use Rattle.question_commands.specs.declared.kept.KeptCommits.{KeptCommits}
 use Rattle.question_commands.specs.NewerCommits.{AreNewerOver, KeepsInTurn, MayNotAdd, TellsAdded, TellsOnTop, TellsWith}
 use Rattle.question_commands.specs.NewerCommits.{added_text}
 use Rattle.question_commands.specs.NewerCommits.{not_added_text}
@@ -125,3 +127,37 @@ told_anew result [] layers kept commits old new none counted told =
     subst (λ (text : List ℕ). OnOk result (Appends old new (text ++ newline)))
     (ap (λ (n : ℕ). opened_line (Ok n)) counted ∙ sym (append-nil (opened_line (Ok (total layers + length kept))))) told
 told_anew result (one ∷ more) layers kept commits old new none counted told = absurd (omega (arith, none))
+
+-- one text behind another was added, and then a third, if it was
+pub told_on : {T E : Type 0} (result : Result T E) (a b c d : Option (List ℕ)) (x y z : List ℕ) → Appends a b x
+    → Appends b c y → OnOk result (Appends c d z) → OnOk result (Appends a d (x ++ (y ++ z)))
+told_on (Ok done) a b c d x y z first second third =
+    Appends-trans a b d x (y ++ z) first (Appends-trans b c d y z second third)
+told_on (Err error) a b c d x y z first second third = tt
+
+-- what is told of contents that were to be added to those that were kept
+pub adds_to : (result : Result (Unit {0}) (AddError AllocError)) (layers these : List Layer) (kept last : KeptCommits)
+    (old new : NewerView) (bytes : List ℕ) (count : ℕ) (before after : Option (List ℕ)) → these ≡ layers
+    → StandOver layers kept → old ≡ view_over these kept → new.layers ≡ old.layers → new.kind ≡ old.kind
+    → OnOk result (new.contents ≡ old.contents ++ bytes ∷ []) → IfErr result (MayNotAdd old.kind old.layers old.top bytes)
+    → OnErr result (new ≡ old) → count ≡ end_of_top new.top → view_over new.layers last ≡ new → StandOver new.layers last
+    → Appends before after (added_text count result ++ newline)
+    → AddsTold (TellsAdded layers (listed_contents kept.contents) bytes (listed_contents last.contents)) before after
+adds_to result layers these kept last old new bytes count before after same stand is graph kind added why stays counts last_is
+    last_stands written =
+    let was : old ≡ view_over layers kept = is ∙ ap (λ (l : List Layer). view_over l kept) same in
+    let first : IsView old = subst IsView (sym was) stand in
+    let then : IsView new = subst IsView last_is last_stands in
+    let text : List ℕ = added_text (end_of_top new.top) result in
+    let tells : TellsAdded old.layers old.contents bytes new.contents text =
+    adds_either result old new bytes first then graph kind added why stays in
+    let kept_now : listed_contents last.contents ≡ new.contents = ap (λ (v : NewerView). v.contents) last_is in
+    let over : TellsAdded layers (listed_contents kept.contents) bytes (listed_contents last.contents) text =
+    subst (λ (v : NewerView). TellsAdded v.layers v.contents bytes (listed_contents last.contents) text) was
+    (subst (λ (all : List (List ℕ)). TellsAdded old.layers old.contents bytes all text) (sym kept_now) tells) in
+    (
+      added_text count result,
+      subst (λ (n : ℕ). TellsAdded layers (listed_contents kept.contents) bytes (listed_contents last.contents)
+          (added_text n result)) (sym counts) over,
+      written,
+    )

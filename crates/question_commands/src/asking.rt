@@ -425,16 +425,31 @@ fn tell_added<W: Write>(
         (added_text commits added ⧺ newline)) }
     ensures buffer { OnOk result (buffer.new ≡ []) }
 {
-    match added {
-        Ok(()) => push_count(commits, buffer, writer)?,
-        Err(AddError::Known(_)) => push_count(commits, buffer, writer)?,
-        Err(AddError::Unreadable) => buffer.push_text(writer, "refused commit\n")?,
-        Err(AddError::Parent { index, .. }) => push_missing(buffer, writer, index as u64 + 1)?,
-        Err(AddError::Full) => buffer.push_text(writer, "refused newer 9\n")?,
-        Err(AddError::OutOfMemory) => buffer.push_text(writer, "refused walk\n")?,
-        Err(AddError::Source(_)) => buffer.push_text(writer, "refused walk\n")?,
-    }
+    push_added(added, commits, buffer, writer)?;
     finish(buffer, writer)
+}
+
+/// Adds the line of how many commits there are now, or why a commit is not added.
+fn push_added<W: Write>(
+    added: Result<(), AddError<AllocError>>,
+    commits: u32,
+    buffer: &mut Buffer,
+    writer: &mut W,
+) -> Result<(), WriteFailed>
+    requires { (number : ℕ) (id : List ℕ) → added ≡ Err (AddError.Parent number id)
+        → number + 1 < 2 ^ 64 }
+    ensures { OnOk result (Appends (with_buffer (W.contents writer.old) buffer.old)
+        (with_buffer (W.contents writer.new) buffer.new) (added_text commits added)) }
+{
+    match added {
+        Ok(()) => push_count(commits, buffer, writer),
+        Err(AddError::Known(_)) => push_count(commits, buffer, writer),
+        Err(AddError::Unreadable) => buffer.push_text(writer, "refused commit\n"),
+        Err(AddError::Parent { index, .. }) => push_missing(buffer, writer, index as u64 + 1),
+        Err(AddError::Full) => buffer.push_text(writer, "refused newer 9\n"),
+        Err(AddError::OutOfMemory) => buffer.push_text(writer, "refused walk\n"),
+        Err(AddError::Source(_)) => buffer.push_text(writer, "refused walk\n"),
+    }
 }
 
 /// Adds the line of how many commits there are.

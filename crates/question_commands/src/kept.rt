@@ -143,6 +143,8 @@ impl<'g> OnTop<'g> {
             → number + 1 < 2 ^ 64 }
         ensures same { OnErr result (self.new ≡ self.old) }
     {
+        // The contract of `graph` says that the base is right.
+        let _graph = self.newer.base.graph();
         if self.contents.reserve(1).is_err() {
             return Err(AddError::OutOfMemory);
         }
@@ -186,6 +188,8 @@ impl<'g> OnTop<'g> {
         ensures found { (said : Said) × SayAt self.old number said
             × (result ≡ newer_found self.old.layers self.old.top number said) }
     {
+        // All commits have positions, and no position is greater than their number.
+        let _commits = self.newer.num_commits();
         let pos = Position(self.newer.base.num_commits() + number as u32);
         let time = self.commit(number).newer_time();
         match self.newer.generation_number(pos) {
@@ -209,6 +213,8 @@ impl<'g> OnTop<'g> {
         ensures reply { IfSome result (λ reply. IsReplyOver self.old.layers self.old.top
             question.now (listed_reply reply)) }
     {
+        // The contract of `graph` says that the base is right.
+        let _graph = self.newer.base.graph();
         search_on_top(alloc, &mut self.newer, None, question).ok()
     }
 }
