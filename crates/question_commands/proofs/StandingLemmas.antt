@@ -154,8 +154,7 @@ adds_to result layers these kept last old new bytes count before after same stan
     let kept_now : listed_contents last.contents ≡ new.contents = ap (λ (v : NewerView). v.contents) last_is in
     let over : TellsAdded layers (listed_contents kept.contents) bytes (listed_contents last.contents) text =
     subst (λ (v : NewerView). TellsAdded v.layers v.contents bytes (listed_contents last.contents) text) was
-    (subst (λ (all : List (List ℕ)). TellsAdded old.layers old.contents bytes all text) (sym kept_now) tells) in
-    (
+    (subst (λ (all : List (List ℕ)). TellsAdded old.layers old.contents bytes all text) (sym kept_now) tells) in (
       added_text count result,
       subst (λ (n : ℕ). TellsAdded layers (listed_contents kept.contents) bytes (listed_contents last.contents)
           (added_text n result)) (sym counts) over,

@@ -14,8 +14,7 @@ pub returns-clause-answered : goal.returns-clause-answered
 returns-clause-answered g c =
     let standing = c.args.standing in
     let over = c.in_ok-answer_on_top.ensures.answered in
-    let some = some_there standing.kept.contents c.is_empty.result c.is_empty.ensures c.if-is_empty.false in
-    (
+    let some = some_there standing.kept.contents c.is_empty.result c.is_empty.ensures c.if-is_empty.false in (
       over.0,
       answered_with standing.kept.kind standing.graph.layers (newer_of standing) standing.kept.commits some c.requires.stand
           _ _ _ _ _ _ over.1,
