@@ -109,7 +109,8 @@ fn ask(
         lines
             .extend_from_slice(line.as_bytes())
             .expect(rt, "memory");
-        assert!(rt; output == lines);
+        // Other trees may have been asked for behind it.
+        assert!(rt; output.starts_with(&lines));
         push_entry(rt, alloc, &mut stream, &id, &trees);
     }
     panic!(rt; "there are no more trees")
