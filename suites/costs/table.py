@@ -112,11 +112,12 @@ STATED = (
     Row("objects", ("lists",), BY_PARENTS, LINEAR),
     Row("paths", ("lines", "lists", *FEW), LINEAR.at_most(ONCE), LINEAR),
     Row("paths", ("layers",), BY_BYTES.at_most(ONCE_IN_LAYERS), LINEAR),
-    # Each tree is hashed once, and read twice: as that of a commit, and as that of a parent.
-    Row("paths", ("trees",), LINEAR.at_most(65), LINEAR),
+    # Each tree is hashed once, and read twice: as that of a commit, and as that of a parent. Each pair of trees is gone through twice:
+    # once for those that are asked for ahead.
+    Row("paths", ("trees",), LINEAR.at_most(95), LINEAR),
     Row("paths --exact", ("lines", "lists", *FEW), LINEAR.at_most(ONCE), LINEAR),
     Row("paths --exact", ("layers",), BY_BYTES.at_most(ONCE_IN_LAYERS), LINEAR),
-    Row("paths --exact", ("trees",), LINEAR.at_most(65), LINEAR),
+    Row("paths --exact", ("trees",), LINEAR.at_most(95), LINEAR),
     Row("write", ("lines", "message"), LINEAR.at_most(40), LINEAR.at_most(5)),
     Row("write", ("parents",), LINEAR.at_most(40), IN_STEPS.at_most(5)),
     Row("write", ("marks",), LINEAR, LINEAR.at_most(5)),
