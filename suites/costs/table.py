@@ -225,7 +225,9 @@ GROWING = (
     Row("cg_is_ancestor", ("lines", "prefix", "layers", "parents", "lists"), LINEAR, LINEAR),
     Row("cg_is_ancestor", ("tower",), LOGARITHMIC, LINEAR),
     Row("cg_is_ancestor", ("padding",), CONSTANT, CONSTANT),
-    Row("cg_is_ancestor_within", ("lines", "prefix", "layers", "parents", "lists"), LINEAR, LINEAR),
+    Row("cg_is_ancestor_within", ("lines", "prefix", "parents", "lists"), LINEAR, LINEAR),
+    # The layer of each commit is found by halving.
+    Row("cg_is_ancestor_within", ("layers",), N_LOG_N, LINEAR),
     Row("cg_is_ancestor_within", ("tower",), LOGARITHMIC, LINEAR),
     Row("cg_is_ancestor_within", ("padding",), CONSTANT, CONSTANT),
     Row("cg_are_ancestors", ("lines", "prefix", "layers", "parents", "lists"), LINEAR, LINEAR),
