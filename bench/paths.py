@@ -68,7 +68,7 @@ def report(name, path):
     git, graph = ["git", "-C", path], os.path.join(path, "objects/info/commit-graph")
     written = [elapsed([*git, "commit-graph", "write", "--reachable", "--changed-paths"], graph) for _ in range(ROUNDS)]
     verified = [elapsed([*git, "cgraph", "verify", "--paths"]) for _ in range(ROUNDS)]
-    logged = elapsed([*git, "-c", "core.commitGraph=false", "log", "--raw", "-r", "--format=%H"])
+    logged = elapsed([*git, "-c", "core.commitGraph=false", "log", "--raw", "-r", "--format=%H", "--all"])
     own, other, trees, memory = ring(path)
     ratio = min(verified) / min(written)
     row = (name, min(verified), min(written), ratio, logged, own, other, own / other, trees, memory / 1024)
