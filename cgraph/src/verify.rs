@@ -1,5 +1,5 @@
-//! `git cgraph verify`: the check of the commit-graph, and what options ask for besides. What it says
-//! of the commits, and what its changed-path filters say of the trees, Git hands over.
+//! `git cgraph verify`: the check of the commit-graph, and what options ask for besides. Git hands
+//! over the commits and the trees against which it is held then.
 
 use crate::answers::{ask_program, Asked, NO_ANSWER};
 use crate::commands::Tool;
